@@ -22,9 +22,11 @@ pub record HasServed {D T : Type 0} (allows : D → Exchange T → D → Type 0)
   pub along : Along allows d talk e
 
 -- Sessions of these numbers were served in turn, and nothing else was asked.
-pub data ServedInTurn {D T : Type 0} (allows : D → Exchange T → D → Type 0) (c : ConfigValue) : D → List ℕ → D → Type 0 where
+pub data ServedInTurn {D T : Type 0} (allows : D → Exchange T → D → Type 0) (c : ConfigValue) : D → List ℕ → D →
+    Type 0 where
   none : {d : D} → ServedInTurn allows c d [] d
-  one_more : {d e f : D} {sessions : List ℕ} (session : ℕ) → ServedInTurn allows c d sessions e → HasServed allows (config_of c session) e f →
+  one_more : {d e f : D} {sessions : List ℕ} (session : ℕ) → ServedInTurn allows c d sessions e →
+      HasServed allows (config_of c session) e f →
       ServedInTurn allows c d (sessions ++ session ∷ []) f
 
 -- sessions of some numbers were served in turn
@@ -33,4 +35,5 @@ HasServedSome allows c d e = (sessions : List ℕ) × ServedInTurn allows c d se
 
 -- Sessions in turn are one talk.
 abbrev pub GoesAlong : {D T : Type 0} → (D → Exchange T → D → Type 0) → Type 0
-GoesAlong {D} {T} allows = (c : ConfigValue) (d e : D) (sessions : List ℕ) → ServedInTurn allows c d sessions e → (talk : List (Exchange T)) × Along allows d talk e
+GoesAlong {D} {T} allows = (c : ConfigValue) (d e : D) (sessions : List ℕ) → ServedInTurn allows c d sessions e →
+    (talk : List (Exchange T)) × Along allows d talk e

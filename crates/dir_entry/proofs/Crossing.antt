@@ -1,4 +1,5 @@
--- An entry and a relative name may cross threads, as a set for `search`: a crate that shares them names it, since a search that goes down through their lists as well runs out of steps.
+-- An entry and a relative name may cross threads, as a set for `search`: a crate that shares them names it, since a
+-- search that goes down through their lists as well runs out of steps.
 use denote.Param.Send.{IsSend, IsSync, sendable}
 use Rattle.std.proofs.Crossing.{crosses}
 use Rattle.ldap_match.specs.ldap_dn.contracts.rdn.Rdn as Rdn

@@ -18,7 +18,8 @@ use Rattle.dir_entry.specs.Values.{is_same_meaning, is_equivalent_by, is_equival
 
 -- what a test on keys says is what the item says
 abbrev pub TestsAreItems : Type 0
-TestsAreItems = (s : SchemaModel) (asked : Item) (t : ℕ) (values keys : List (List ℕ)) → AreKeysOf s t values keys → test_value (test_for s asked t) keys ≡ item_on_attribute s asked t values
+TestsAreItems = (s : SchemaModel) (asked : Item) (t : ℕ) (values keys : List (List ℕ)) → AreKeysOf s t values keys →
+    test_value (test_for s asked t) keys ≡ item_on_attribute s asked t values
 
 decided_alike : (a b : Bool) → truth_of (a || false) ≡ truth_of (b || false) → a ≡ b
 decided_alike true true h = refl
@@ -37,27 +38,37 @@ both_ways false true f g = g refl
 both_ways false false f g = refl
 
 turned : (k l : List ℕ) → bytes_eq k l ≡ bytes_eq l k
-turned k l = both_ways (bytes_eq k l) (bytes_eq l k) (λ h. (bytes_eq-Decides l k).1 (sym ((bytes_eq-Decides k l).0 h))) (λ h. (bytes_eq-Decides k l).1 (sym ((bytes_eq-Decides l k).0 h)))
+turned k l = both_ways (bytes_eq k l) (bytes_eq l k) (λ h. (bytes_eq-Decides l k).1
+    (sym ((bytes_eq-Decides k l).0 h))) (λ h. (bytes_eq-Decides k l).1 (sym ((bytes_eq-Decides l k).0 h)))
 
-by_meaning : (s : SchemaModel) (r : Rule) (w : List ℕ) (b : Bool) (o : Option Meaning) → truth_of (b || false) ≡ satisfied s r o (w ∷ []) → b ≡ is_same_meaning o (meaning s r w)
+by_meaning : (s : SchemaModel) (r : Rule) (w : List ℕ) (b : Bool) (o : Option Meaning) → truth_of (b || false) ≡
+    satisfied s r o (w ∷ []) → b ≡ is_same_meaning o (meaning s r w)
 by_meaning s r w b None h = absurd (never_undefined b h)
 by_meaning s r w b (Some m) h = decided_alike b (is_meant m (meaning s r w)) h
 
-one_key : (s : SchemaModel) (t : ℕ) (r : Rule) (w l : List ℕ) → equality_of s t ≡ Some r → key_at s r w ≡ Some l → AreKeysOf s t (w ∷ []) (l ∷ [])
-one_key s t r w l e h = subst (λ (o : Option Rule). AreKeysBy s o (w ∷ []) (l ∷ [])) (sym e) (ap (λ (x : Option (List ℕ)). x ∷ []) h)
+one_key : (s : SchemaModel) (t : ℕ) (r : Rule) (w l : List ℕ) → equality_of s t ≡ Some r → key_at s r w ≡ Some l →
+    AreKeysOf s t (w ∷ []) (l ∷ [])
+one_key s t r w l e h = subst (λ (o : Option Rule). AreKeysBy s o (w ∷ []) (l ∷ [])) (sym e)
+    (ap (λ (x : Option (List ℕ)). x ∷ []) h)
 
-tested : (s : SchemaModel) (t : ℕ) (r : Rule) (v k l : List ℕ) → equality_of s t ≡ Some r → key_at s r v ≡ Some k → test_value (test_for s (equal v) t) (l ∷ []) ≡ truth_of (bytes_eq l k || false)
+tested : (s : SchemaModel) (t : ℕ) (r : Rule) (v k l : List ℕ) → equality_of s t ≡ Some r → key_at s r v ≡ Some k →
+    test_value (test_for s (equal v) t) (l ∷ []) ≡ truth_of (bytes_eq l k || false)
 tested s t r v k l e h =
-    ap (λ (o : Option Rule). test_value (test_by s o v) (l ∷ [])) e ∙ ap (λ (x : Option (List ℕ)). test_value (equality_test x) (l ∷ [])) h
+    ap (λ (o : Option Rule). test_value (test_by s o v) (l ∷ [])) e
+    ∙ ap (λ (x : Option (List ℕ)). test_value (equality_test x) (l ∷ [])) h
 
 -- two keys are equal where their values are equivalent
-pub alike : TestsAreItems → (s : SchemaModel) (t : ℕ) (r : Rule) (v w k l : List ℕ) → equality_of s t ≡ Some r → key_at s r v ≡ Some k → key_at s r w ≡ Some l → bytes_eq k l ≡ is_equivalent s t v w
+pub alike : TestsAreItems → (s : SchemaModel) (t : ℕ) (r : Rule) (v w k l : List ℕ) → equality_of s t ≡ Some r →
+    key_at s r v ≡ Some k → key_at s r w ≡ Some l → bytes_eq k l ≡ is_equivalent s t v w
 alike law s t r v w k l e hv hw =
     turned k l
-    ∙ by_meaning s r w (bytes_eq l k) (meaning s r v) (sym (tested s t r v k l e hv) ∙ law s (equal v) t (w ∷ []) (l ∷ []) (one_key s t r w l e hw) ∙ ap (λ (o : Option Rule). equality_by s o v (w ∷ [])) e)
+    ∙ by_meaning s r w (bytes_eq l k) (meaning s r v) (sym (tested s t r v k l e hv) ∙ law s (equal v) t (w ∷ [])
+    (l ∷ []) (one_key s t r w l e hw) ∙ ap (λ (o : Option Rule). equality_by s o v (w ∷ [])) e)
     ∙ ap (λ (o : Option Rule). is_equivalent_by s o v w) (sym e)
 
-pub any_alike : TestsAreItems → (s : SchemaModel) (t : ℕ) (r : Rule) (v k : List ℕ) (ws ls : List (List ℕ)) → equality_of s t ≡ Some r → key_at s r v ≡ Some k → map (key_at s r) ws ≡ map Some ls → list_any (bytes_eq k) ls ≡ list_any (is_equivalent s t v) ws
+pub any_alike : TestsAreItems → (s : SchemaModel) (t : ℕ) (r : Rule) (v k : List ℕ) (ws ls : List (List ℕ)) →
+    equality_of s t ≡ Some r → key_at s r v ≡ Some k → map (key_at s r) ws ≡ map Some ls → list_any (bytes_eq k) ls ≡
+    list_any (is_equivalent s t v) ws
 any_alike law s t r v k [] [] e hv h = refl
 any_alike law s t r v k [] (l ∷ ls) e hv h = absurd (cc)
 any_alike law s t r v k (w ∷ ws) [] e hv h = absurd (cc)
@@ -66,7 +77,8 @@ any_alike law s t r v k (w ∷ ws) (l ∷ ls) e hv h =
     let more : map (key_at s r) ws ≡ map Some ls = cc in
     ap₂ (λ (a b : Bool). a || b) (alike law s t r v w k l e hv first) (any_alike law s t r v k ws ls e hv more)
 
-pub twice_alike : TestsAreItems → (s : SchemaModel) (t : ℕ) (r : Rule) (vs ks : List (List ℕ)) → equality_of s t ≡ Some r → map (key_at s r) vs ≡ map Some ks → has_twice bytes_eq ks ≡ has_repeats s t vs
+pub twice_alike : TestsAreItems → (s : SchemaModel) (t : ℕ) (r : Rule) (vs ks : List (List ℕ)) → equality_of s t ≡
+    Some r → map (key_at s r) vs ≡ map Some ks → has_twice bytes_eq ks ≡ has_repeats s t vs
 twice_alike law s t r [] [] e h = refl
 twice_alike law s t r [] (k ∷ ks) e h = absurd (cc)
 twice_alike law s t r (v ∷ vs) [] e h = absurd (cc)
@@ -76,9 +88,11 @@ twice_alike law s t r (v ∷ vs) (k ∷ ks) e h =
     ap₂ (λ (a b : Bool). a || b) (any_alike law s t r v k vs ks e first more) (twice_alike law s t r vs ks e more)
 
 -- equal keys are repeats, where the type has a rule
-pub by_keys : TestsAreItems → (s : SchemaModel) (t : ℕ) (r : Rule) (vs ks : List (List ℕ)) → equality_of s t ≡ Some r → AreKeysOf s t vs ks → has_twice bytes_eq ks ≡ has_repeats s t vs
+pub by_keys : TestsAreItems → (s : SchemaModel) (t : ℕ) (r : Rule) (vs ks : List (List ℕ)) → equality_of s t ≡
+    Some r → AreKeysOf s t vs ks → has_twice bytes_eq ks ≡ has_repeats s t vs
 by_keys law s t r vs ks e h = twice_alike law s t r vs ks e (subst (λ (o : Option Rule). AreKeysBy s o vs ks) e h)
 
 -- equal octets are repeats, where it has none
-pub by_octets : (s : SchemaModel) (t : ℕ) (vs : List (List ℕ)) → equality_of s t ≡ None → has_twice bytes_eq vs ≡ has_repeats s t vs
+pub by_octets : (s : SchemaModel) (t : ℕ) (vs : List (List ℕ)) → equality_of s t ≡ None → has_twice bytes_eq vs ≡
+    has_repeats s t vs
 by_octets s t vs e = ap (λ (o : Option Rule). has_twice (is_equivalent_by s o) vs) (sym e)

@@ -15,8 +15,10 @@ refuse test code rest = cond test (Err code) rest
 abbrev pub has_type : ℕ → List AttributeModel → Bool
 has_type t e = list_any (λ a. nat_eq a.kind t) e
 
--- The entry with one attribute more at its end; invalidAttributeSyntax (21) where a value is not in the type's syntax, then
--- attributeOrValueExists (20) where two values are equivalent or the type was given before (RFC 4511 4.7, Appendix A.2).
+-- The entry with one attribute more at its end; invalidAttributeSyntax (21) where a value is not in the type's syntax,
+-- then
+-- attributeOrValueExists (20) where two values are equivalent or the type was given before (RFC 4511 4.7, Appendix
+-- A.2).
 abbrev pub with_attribute : SchemaModel → ℕ → List (List ℕ) → List AttributeModel → Result (List AttributeModel) ℕ
 with_attribute s t values e =
     refuse (not (are_in_syntax s t values)) 21
@@ -33,7 +35,8 @@ IsInvalid NotAllowedOnRdn valid = ⊥
 IsInvalid ObjectClassModsProhibited valid = ⊥
 IsInvalid NoMemory valid = Unit {0}
 
--- what a refusal says of the entry that is asked for: its result code (RFC 4511 Appendix A.2); of want of memory nothing
+-- what a refusal says of the entry that is asked for: its result code (RFC 4511 Appendix A.2); of want of memory
+-- nothing
 abbrev pub Refuses : {A : Type 0} → EntryError → Result A ℕ → Type 0
 Refuses InvalidAttributeSyntax asked = asked ≡ Err 21
 Refuses NoSuchAttribute asked = asked ≡ Err 16

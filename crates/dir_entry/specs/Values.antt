@@ -19,7 +19,8 @@ abbrev pub is_equivalent_by : SchemaModel → Option Rule → List ℕ → List 
 is_equivalent_by s None v w = bytes_eq v w
 is_equivalent_by s (Some r) v w = is_same_meaning (meaning s r v) (meaning s r w)
 
--- Two values of a type are equivalent: they match by its EQUALITY rule, or are identical where it has none (RFC 4512 2.2).
+-- Two values of a type are equivalent: they match by its EQUALITY rule, or are identical where it has none (RFC 4512
+-- 2.2).
 abbrev pub is_equivalent : SchemaModel → ℕ → List ℕ → List ℕ → Bool
 is_equivalent s t v w = is_equivalent_by s (equality_of s t) v w
 

@@ -1,4 +1,5 @@
--- What a change of an entry's attributes leaves as it is: keys at both ends, attributes that are the same, postings that aren't marked.
+-- What a change of an entry's attributes leaves as it is: keys at both ends, attributes that are the same, postings
+-- that aren't marked.
 use Rattle.std.proofs.Common.{◌≡◌, ℕ, Bool, true, false, List, [], ◌∷◌, ◌++◌, length, nat_eq, refl, sym, ap, ap₂, ◌∙◌, subst}
 use Rattle.std.specs.Prelude.{◌&&◌, ◌||◌, not, nat_lt}
 use Rattle.std.specs.List.{list_any}
@@ -21,11 +22,13 @@ use Rattle.dir_index.proofs.Marking.{entry_more, entry_none}
 
 -- ---- keys at both ends
 
-pub any_front : (f : List ℕ → Bool) (xs ys rest more : List (List ℕ)) (x y : List ℕ) → xs ≡ x ∷ rest → ys ≡ y ∷ more → bytes_eq x y ≡ true → list_any f rest ≡ list_any f more → list_any f xs ≡ list_any f ys
+pub any_front : (f : List ℕ → Bool) (xs ys rest more : List (List ℕ)) (x y : List ℕ) → xs ≡ x ∷ rest → ys ≡ y ∷ more →
+    bytes_eq x y ≡ true → list_any f rest ≡ list_any f more → list_any f xs ≡ list_any f ys
 any_front f xs ys rest more x y a b e h =
     ap (list_any f) a ∙ ap₂ (λ (p q : Bool). p || q) (ap f ((bytes_eq-Decides x y).0 e)) h ∙ sym (ap (list_any f) b)
 
-pub any_end : (f : List ℕ → Bool) (xs ys rest more : List (List ℕ)) (x y : List ℕ) → xs ≡ rest ++ (x ∷ []) → ys ≡ more ++ (y ∷ []) → bytes_eq x y ≡ true → list_any f rest ≡ list_any f more → list_any f xs ≡ list_any f ys
+pub any_end : (f : List ℕ → Bool) (xs ys rest more : List (List ℕ)) (x y : List ℕ) → xs ≡ rest ++ (x ∷ []) →
+    ys ≡ more ++ (y ∷ []) → bytes_eq x y ≡ true → list_any f rest ≡ list_any f more → list_any f xs ≡ list_any f ys
 any_end f xs ys rest more x y a b e h =
     ap (list_any f) a ∙ list_any-append f rest (x ∷ [])
     ∙ ap₂ (λ (p q : Bool). p || (q || false)) h (ap f ((bytes_eq-Decides x y).0 e))
@@ -50,12 +53,15 @@ off_three false false false a b h = refl
 -- ---- attributes
 
 -- keys that no index has
-pub no_keys : (ks : Kinds) (t : ℕ) (p : Posting) (xs : List (List ℕ)) → (ks.equality || (ks.ordering || ks.substrings)) ≡ false → list_any (is_from_key ks t p) xs ≡ false
+pub no_keys : (ks : Kinds) (t : ℕ) (p : Posting) (xs : List (List ℕ)) →
+    (ks.equality || (ks.ordering || ks.substrings)) ≡ false → list_any (is_from_key ks t p) xs ≡ false
 no_keys ks t p [] h = refl
 no_keys ks t p (x ∷ xs) h =
-    ap₂ (λ (a b : Bool). a || b) (off_three ks.equality ks.ordering ks.substrings (is_of_key t x p) (is_run_of t x p) h) (no_keys ks t p xs h)
+    ap₂ (λ (a b : Bool). a || b) (off_three ks.equality ks.ordering ks.substrings (is_of_key t x p) (is_run_of t x p)
+    h) (no_keys ks t p xs h)
 
-never_several : (ks : Kinds) (t : ℕ) (b : Bool) (p : Posting) → is_from_several ks t true p ≡ false → is_from_several ks t b p ≡ false
+never_several : (ks : Kinds) (t : ℕ) (b : Bool) (p : Posting) → is_from_several ks t true p ≡ false →
+    is_from_several ks t b p ≡ false
 never_several ks t b (Present u) h = refl
 never_several ks t b (Several u) h = less ks.ordering (nat_eq t u) b h
   where
@@ -67,40 +73,56 @@ never_several ks t b (Equal u l) h = refl
 never_several ks t b (Run u g) h = refl
 
 -- two attributes of a type, whose keys a posting doesn't tell apart
-pub pair_apart : (ix : List Kinds) (a b : KeyedAttribute) (e d : List KeyedAttribute) (p : Posting) (t : ℕ) (ks : Kinds) → t ≡ a.kind → ks ≡ kinds_of ix t → a.kind ≡ b.kind
-    → is_from_several ks t true p ≡ false → list_any (is_from_key ks t p) a.keys ≡ list_any (is_from_key ks t p) b.keys → is_from_attribute ix a e p ≡ is_from_attribute ix b d p
+pub pair_apart : (ix : List Kinds) (a b : KeyedAttribute) (e d : List KeyedAttribute) (p : Posting) (t : ℕ)
+    (ks : Kinds) → t ≡ a.kind → ks ≡ kinds_of ix t → a.kind ≡ b.kind
+    → is_from_several ks t true p ≡ false → list_any (is_from_key ks t p) a.keys ≡ list_any (is_from_key ks t p)
+    b.keys → is_from_attribute ix a e p ≡ is_from_attribute ix b d p
 pair_apart ix a b e d p t ks ta k ab several keys =
     as_of a e ta ∙ ap (λ (x : Bool). is_from_presence ks t p || x) keys ∙ sym (as_of b d (ta ∙ ab))
   where
-    as_of : (c : KeyedAttribute) (f : List KeyedAttribute) → t ≡ c.kind → is_from_attribute ix c f p ≡ (is_from_presence ks t p || list_any (is_from_key ks t p) c.keys)
+    as_of : (c : KeyedAttribute) (f : List KeyedAttribute) → t ≡ c.kind → is_from_attribute ix c f p ≡
+        (is_from_presence ks t p || list_any (is_from_key ks t p) c.keys)
     as_of c f tc =
-        ap (λ (u : ℕ). is_from_presence (kinds_of ix u) u p || (is_from_several (kinds_of ix u) u (makes_several c f) p || list_any (is_from_key (kinds_of ix u) u p) c.keys)) (sym tc)
-        ∙ ap (λ (q : Kinds). is_from_presence q t p || (is_from_several q t (makes_several c f) p || list_any (is_from_key q t p) c.keys)) (sym k)
-        ∙ ap (λ (x : Bool). is_from_presence ks t p || (x || list_any (is_from_key ks t p) c.keys)) (never_several ks t (makes_several c f) p several)
+        ap (λ (u : ℕ). is_from_presence (kinds_of ix u) u p || (is_from_several (kinds_of ix u) u (makes_several c f)
+        p || list_any (is_from_key (kinds_of ix u) u p) c.keys)) (sym tc)
+        ∙ ap (λ (q : Kinds). is_from_presence q t p || (is_from_several q t (makes_several c f) p || list_any
+        (is_from_key q t p) c.keys)) (sym k)
+        ∙ ap (λ (x : Bool). is_from_presence ks t p || (x || list_any (is_from_key ks t p) c.keys))
+        (never_several ks t (makes_several c f) p several)
 
 -- an attribute that brings none of a posting's
-pub whole_apart : (ix : List Kinds) (a : KeyedAttribute) (e : List KeyedAttribute) (p : Posting) (t : ℕ) (ks : Kinds) → t ≡ a.kind → ks ≡ kinds_of ix t
-    → is_from_presence ks t p ≡ false → is_from_several ks t true p ≡ false → list_any (is_from_key ks t p) a.keys ≡ false → is_from_attribute ix a e p ≡ false
+pub whole_apart : (ix : List Kinds) (a : KeyedAttribute) (e : List KeyedAttribute) (p : Posting) (t : ℕ)
+    (ks : Kinds) → t ≡ a.kind → ks ≡ kinds_of ix t
+    → is_from_presence ks t p ≡ false → is_from_several ks t true p ≡ false → list_any (is_from_key ks t p) a.keys ≡
+    false → is_from_attribute ix a e p ≡ false
 whole_apart ix a e p t ks ta k presence several keys =
-    ap (λ (u : ℕ). is_from_presence (kinds_of ix u) u p || (is_from_several (kinds_of ix u) u (makes_several a e) p || list_any (is_from_key (kinds_of ix u) u p) a.keys)) (sym ta)
-    ∙ ap (λ (q : Kinds). is_from_presence q t p || (is_from_several q t (makes_several a e) p || list_any (is_from_key q t p) a.keys)) (sym k)
-    ∙ ap (λ (x : Bool). is_from_presence ks t p || (x || list_any (is_from_key ks t p) a.keys)) (never_several ks t (makes_several a e) p several)
+    ap (λ (u : ℕ). is_from_presence (kinds_of ix u) u p || (is_from_several (kinds_of ix u) u (makes_several a e) p ||
+    list_any (is_from_key (kinds_of ix u) u p) a.keys)) (sym ta)
+    ∙ ap (λ (q : Kinds). is_from_presence q t p || (is_from_several q t (makes_several a e) p || list_any
+    (is_from_key q t p) a.keys)) (sym k)
+    ∙ ap (λ (x : Bool). is_from_presence ks t p || (x || list_any (is_from_key ks t p) a.keys))
+    (never_several ks t (makes_several a e) p several)
     ∙ ap₂ (λ (x y : Bool). x || y) presence keys
 
 -- ---- entries
 
-pub entry_nothing : (ix : List Kinds) (es : List KeyedAttribute) (p : Posting) → length es ≡ 0 → lists_entry ix es p ≡ false
+pub entry_nothing : (ix : List Kinds) (es : List KeyedAttribute) (p : Posting) → length es ≡ 0 → lists_entry ix es p ≡
+    false
 entry_nothing ix [] p h = entry_none ix p
 entry_nothing ix (e ∷ es) p h = absurd (cc)
 
 -- an entry whose first attribute brings none of a posting's
-pub entry_rest : (ix : List Kinds) (es rest : List KeyedAttribute) (a : KeyedAttribute) (p : Posting) → es ≡ a ∷ rest → is_from_attribute ix a rest p ≡ false → lists_entry ix es p ≡ lists_entry ix rest p
+pub entry_rest : (ix : List Kinds) (es rest : List KeyedAttribute) (a : KeyedAttribute) (p : Posting) →
+    es ≡ a ∷ rest → is_from_attribute ix a rest p ≡ false → lists_entry ix es p ≡ lists_entry ix rest p
 entry_rest ix es rest a p e h =
-    ap (λ (l : List KeyedAttribute). lists_entry ix l p) e ∙ sym (entry_more ix a rest p) ∙ ap (λ (b : Bool). b || lists_entry ix rest p) h
+    ap (λ (l : List KeyedAttribute). lists_entry ix l p) e ∙ sym (entry_more ix a rest p)
+    ∙ ap (λ (b : Bool). b || lists_entry ix rest p) h
 
 -- two entries whose first attributes bring the same of a posting's
-pub entry_pair : (ix : List Kinds) (es ds rest more : List KeyedAttribute) (a b : KeyedAttribute) (p : Posting) → es ≡ a ∷ rest → ds ≡ b ∷ more
-    → is_from_attribute ix a rest p ≡ is_from_attribute ix b more p → lists_entry ix rest p ≡ lists_entry ix more p → lists_entry ix es p ≡ lists_entry ix ds p
+pub entry_pair : (ix : List Kinds) (es ds rest more : List KeyedAttribute) (a b : KeyedAttribute) (p : Posting) →
+    es ≡ a ∷ rest → ds ≡ b ∷ more
+    → is_from_attribute ix a rest p ≡ is_from_attribute ix b more p → lists_entry ix rest p ≡ lists_entry ix more p →
+    lists_entry ix es p ≡ lists_entry ix ds p
 entry_pair ix es ds rest more a b p e d h k =
     ap (λ (l : List KeyedAttribute). lists_entry ix l p) e ∙ sym (entry_more ix a rest p)
     ∙ ap₂ (λ (x y : Bool). x || y) h k
@@ -109,7 +131,8 @@ entry_pair ix es ds rest more a b p e d h k =
 -- ---- one posting
 
 -- what the key of a posting says of an entry
-pub listed_by : (ix : List Kinds) (e : List KeyedAttribute) (k : ListKey) (p : Posting) → is_same_list k (key_of p) ≡ true → lists_by ix e k ≡ lists_entry ix e p
+pub listed_by : (ix : List Kinds) (e : List KeyedAttribute) (k : ListKey) (p : Posting) → is_same_list k (key_of p) ≡
+    true → lists_by ix e k ≡ lists_entry ix e p
 listed_by ix e k p h = ap (lists_by ix e) (one_list k (key_of p) h) ∙ at_posting p
   where
     at_posting : (p : Posting) → lists_by ix e (key_of p) ≡ lists_entry ix e p
@@ -119,10 +142,12 @@ listed_by ix e k p h = ap (lists_by ix e) (one_list k (key_of p) h) ∙ at_posti
     at_posting (Run t g) = refl
 
 -- an attribute makes an entry one of several values of its own type alone
-pub several_of : (t : ℕ) (a : KeyedAttribute) (e : List KeyedAttribute) → (nat_eq a.kind t && makes_several a e) ≡ (is_of t a && (nat_lt 1 (length a.keys) || has_type t e))
+pub several_of : (t : ℕ) (a : KeyedAttribute) (e : List KeyedAttribute) → (nat_eq a.kind t && makes_several a e) ≡
+    (is_of t a && (nat_lt 1 (length a.keys) || has_type t e))
 several_of t a e = pick (nat_eq a.kind t) refl
   where
-    pick : (b : Bool) → nat_eq a.kind t ≡ b → (b && makes_several a e) ≡ (b && (nat_lt 1 (length a.keys) || has_type t e))
+    pick : (b : Bool) → nat_eq a.kind t ≡ b → (b && makes_several a e) ≡
+        (b && (nat_lt 1 (length a.keys) || has_type t e))
     pick true h = ap (λ (u : ℕ). nat_lt 1 (length a.keys) || has_type u e) (eqb-true a.kind t h)
     pick false h = refl
 
@@ -160,5 +185,7 @@ moved_within false b a there h = stays there ∙ sym (same b there) ∙ ap (λ (
     same false false = refl
 
 -- an attribute that makes an entry none of several values
-pub several_less : (t : ℕ) (es others : List KeyedAttribute) (a : KeyedAttribute) → es ≡ a ∷ others → (nat_eq a.kind t && makes_several a others) ≡ false → has_several t others ≡ has_several t es
-several_less t es others a e h = sym (ap (has_several t) e ∙ ap (λ (b : Bool). b || has_several t others) (sym (several_of t a others) ∙ h))
+pub several_less : (t : ℕ) (es others : List KeyedAttribute) (a : KeyedAttribute) → es ≡ a ∷ others →
+    (nat_eq a.kind t && makes_several a others) ≡ false → has_several t others ≡ has_several t es
+several_less t es others a e h = sym (ap (has_several t) e ∙ ap (λ (b : Bool). b || has_several t others)
+    (sym (several_of t a others) ∙ h))

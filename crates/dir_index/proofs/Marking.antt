@@ -25,14 +25,17 @@ use Rattle.dir_index.specs.private.Marked.{is_marked, lists_entry, is_of_key, is
 -- what std's set has is what is marked
 pub marked_at : (ks : List ListKey) (k : ListKey) → is_marked ks k ≡ list_any (is_at (list_order k)) ks
 marked_at [] k = refl
-marked_at (j ∷ ks) k = ap (λ (b : Bool). b || is_marked ks k) (list_equiv.symm j k ∙ list_ties k j) ∙ ap (λ (b : Bool). is_eq (list_order k j) || b) (marked_at ks k)
+marked_at (j ∷ ks) k = ap (λ (b : Bool). b || is_marked ks k) (list_equiv.symm j k ∙ list_ties k j)
+    ∙ ap (λ (b : Bool). is_eq (list_order k j) || b) (marked_at ks k)
 
 -- one more key
-pub marked_more : (old new : List ListKey) (j : ListKey) → ((k : ListKey) → list_any (is_at (list_order k)) new ≡ cond (is_at (list_order j) k) true (list_any (is_at (list_order k)) old))
+pub marked_more : (old new : List ListKey) (j : ListKey) → ((k : ListKey) → list_any (is_at (list_order k)) new ≡
+    cond (is_at (list_order j) k) true (list_any (is_at (list_order k)) old))
     → (k : ListKey) → is_marked new k ≡ (is_same_list j k || is_marked old k)
 marked_more old new j h k =
     marked_at new k ∙ h k ∙ flat (is_eq (list_order j k)) (list_any (is_at (list_order k)) old)
-    ∙ ap (λ (b : Bool). b || list_any (is_at (list_order k)) old) (sym (list_ties j k)) ∙ ap (λ (b : Bool). is_same_list j k || b) (sym (marked_at old k))
+    ∙ ap (λ (b : Bool). b || list_any (is_at (list_order k)) old) (sym (list_ties j k))
+    ∙ ap (λ (b : Bool). is_same_list j k || b) (sym (marked_at old k))
   where
     flat : (a b : Bool) → cond a true b ≡ (a || b)
     flat true b = refl
@@ -88,7 +91,8 @@ at_kind_and f t u x = pick (nat_eq t u) refl
 
 -- ---- what single keys are
 
-pub same_value : (t : ℕ) (k : List ℕ) (p : Posting) → is_same_list (record { type_id = t; rank = 2; octets = k }) (key_of p) ≡ is_of_key t k p
+pub same_value : (t : ℕ) (k : List ℕ) (p : Posting) → is_same_list (record { type_id = t; rank = 2; octets = k })
+    (key_of p) ≡ is_of_key t k p
 same_value t k (Present u) = off (nat_eq t u)
 same_value t k (Several u) = off (nat_eq t u)
 same_value t k (Equal u l) = refl
@@ -98,7 +102,8 @@ on_off : (b : Bool) → (b && true) ≡ b
 on_off true = refl
 on_off false = refl
 
-pub same_presence : (ks : Kinds) (t : ℕ) (p : Posting) → ks.presence ≡ true → is_same_list (record { type_id = t; rank = 0; octets = [] }) (key_of p) ≡ is_from_presence ks t p
+pub same_presence : (ks : Kinds) (t : ℕ) (p : Posting) → ks.presence ≡ true →
+    is_same_list (record { type_id = t; rank = 0; octets = [] }) (key_of p) ≡ is_from_presence ks t p
 same_presence ks t (Present u) h = on_off (nat_eq t u) ∙ ap (λ (b : Bool). b && nat_eq t u) (sym h)
 same_presence ks t (Several u) h = off (nat_eq t u)
 same_presence ks t (Equal u l) h = off (nat_eq t u)
@@ -110,13 +115,16 @@ no_presence ks t (Several u) h = refl
 no_presence ks t (Equal u l) h = refl
 no_presence ks t (Run u g) h = refl
 
-pub same_several : (ks : Kinds) (t : ℕ) (b : Bool) (p : Posting) → ks.ordering ≡ true → b ≡ true → is_same_list (record { type_id = t; rank = 1; octets = [] }) (key_of p) ≡ is_from_several ks t b p
+pub same_several : (ks : Kinds) (t : ℕ) (b : Bool) (p : Posting) → ks.ordering ≡ true → b ≡ true →
+    is_same_list (record { type_id = t; rank = 1; octets = [] }) (key_of p) ≡ is_from_several ks t b p
 same_several ks t b (Present u) h s = off (nat_eq t u)
-same_several ks t b (Several u) h s = ap (λ (x : Bool). nat_eq t u && x) (sym s) ∙ ap (λ (x : Bool). x && (nat_eq t u && b)) (sym h)
+same_several ks t b (Several u) h s = ap (λ (x : Bool). nat_eq t u && x) (sym s)
+    ∙ ap (λ (x : Bool). x && (nat_eq t u && b)) (sym h)
 same_several ks t b (Equal u l) h s = off (nat_eq t u)
 same_several ks t b (Run u g) h s = off (nat_eq t u)
 
-pub no_several : (ks : Kinds) (t : ℕ) (b : Bool) (p : Posting) → (ks.ordering && b) ≡ false → is_from_several ks t b p ≡ false
+pub no_several : (ks : Kinds) (t : ℕ) (b : Bool) (p : Posting) → (ks.ordering && b) ≡ false →
+    is_from_several ks t b p ≡ false
 no_several ks t b (Present u) h = refl
 no_several ks t b (Several u) h = either ks.ordering (nat_eq t u) b h
   where
@@ -128,7 +136,8 @@ no_several ks t b (Equal u l) h = refl
 no_several ks t b (Run u g) h = refl
 
 -- the first three octets, compared at once, and by their count
-pub same_run : (t : ℕ) (k : List ℕ) (p : Posting) → 3 ≤ length k → is_same_list (record { type_id = t; rank = 3; octets = take 3 k }) (key_of p) ≡ is_first_run t k p
+pub same_run : (t : ℕ) (k : List ℕ) (p : Posting) → 3 ≤ length k →
+    is_same_list (record { type_id = t; rank = 3; octets = take 3 k }) (key_of p) ≡ is_first_run t k p
 same_run t k (Present u) h = off (nat_eq t u)
 same_run t k (Several u) h = off (nat_eq t u)
 same_run t k (Equal u l) h = off (nat_eq t u)
@@ -150,7 +159,8 @@ is_listed_by (Several t) a e = is_of t a && (nat_lt 1 (length a.keys) || has_typ
 is_listed_by (Equal t k) a e = is_of t a && list_any (is_same_key k) a.keys
 is_listed_by (Run t g) a e = is_of t a && list_any (stands_in g) a.keys
 
-listed_more : (p : Posting) (a : KeyedAttribute) (e : List KeyedAttribute) → (is_listed_by p a e || is_listed p e) ≡ is_listed p (a ∷ e)
+listed_more : (p : Posting) (a : KeyedAttribute) (e : List KeyedAttribute) → (is_listed_by p a e || is_listed p e) ≡
+    is_listed p (a ∷ e)
 unfolding is_listed_by
 listed_more (Present t) a e = refl
 listed_more (Several t) a e = refl
@@ -171,18 +181,26 @@ asked ks = ks.equality || ks.ordering
 nothing : (ks : Kinds) → (((ks.equality || ks.ordering) && false) || (ks.substrings && false)) ≡ false
 nothing ks = ap (λ (b : Bool). b || (ks.substrings && false)) (off (ks.equality || ks.ordering)) ∙ off ks.substrings
 
--- one attribute: its presence, whether there may be several values, its keys, their runs, each where the type has such an index
-attribute_lists : (ix : List Kinds) (a : KeyedAttribute) (e : List KeyedAttribute) (p : Posting) → is_from_attribute ix a e p ≡ (is_kept ix p && is_listed_by p a e)
+-- one attribute: its presence, whether there may be several values, its keys, their runs, each where the type has such
+-- an index
+attribute_lists : (ix : List Kinds) (a : KeyedAttribute) (e : List KeyedAttribute) (p : Posting) →
+    is_from_attribute ix a e p ≡ (is_kept ix p && is_listed_by p a e)
 unfolding asked is_listed_by
 attribute_lists ix a e (Present u) =
-    ap (λ (b : Bool). ((kinds_of ix a.kind).presence && nat_eq a.kind u) || b) (any_same (is_from_key (kinds_of ix a.kind) a.kind (Present u)) (λ k. false) (λ k. nothing (kinds_of ix a.kind)) a.keys ∙ all_off a.keys)
+    ap (λ (b : Bool). ((kinds_of ix a.kind).presence && nat_eq a.kind u) || b)
+    (any_same (is_from_key (kinds_of ix a.kind) a.kind (Present u)) (λ k. false)
+    (λ k. nothing (kinds_of ix a.kind)) a.keys ∙ all_off a.keys)
     ∙ or_off ((kinds_of ix a.kind).presence && nat_eq a.kind u) ∙ at_kind (λ (t : ℕ). (kinds_of ix t).presence) a.kind u
 attribute_lists ix a e (Several u) =
-    ap (λ (b : Bool). ((kinds_of ix a.kind).ordering && (nat_eq a.kind u && makes_several a e)) || b) (any_same (is_from_key (kinds_of ix a.kind) a.kind (Several u)) (λ k. false) (λ k. nothing (kinds_of ix a.kind)) a.keys ∙ all_off a.keys)
+    ap (λ (b : Bool). ((kinds_of ix a.kind).ordering && (nat_eq a.kind u && makes_several a e)) || b)
+    (any_same (is_from_key (kinds_of ix a.kind) a.kind (Several u)) (λ k. false)
+    (λ k. nothing (kinds_of ix a.kind)) a.keys ∙ all_off a.keys)
     ∙ or_off ((kinds_of ix a.kind).ordering && (nat_eq a.kind u && makes_several a e))
     ∙ at_kind_both (λ (t : ℕ). (kinds_of ix t).ordering) (λ (t : ℕ). nat_lt 1 (length a.keys) || has_type t e) a.kind u
 attribute_lists ix a e (Equal u l) =
-    any_same (is_from_key (kinds_of ix a.kind) a.kind (Equal u l)) (λ k. asked (kinds_of ix a.kind) && (nat_eq a.kind u && is_same_key l k)) (λ k. alone (kinds_of ix a.kind) (nat_eq a.kind u && is_same_key l k)) a.keys
+    any_same (is_from_key (kinds_of ix a.kind) a.kind (Equal u l)) (λ k. asked (kinds_of ix a.kind)
+    && (nat_eq a.kind u && is_same_key l k)) (λ k. alone (kinds_of ix a.kind) (nat_eq a.kind u
+    && is_same_key l k)) a.keys
     ∙ any_and (asked (kinds_of ix a.kind)) (λ k. nat_eq a.kind u && is_same_key l k) a.keys
     ∙ ap (λ (b : Bool). asked (kinds_of ix a.kind) && b) (any_and (nat_eq a.kind u) (is_same_key l) a.keys)
     ∙ at_kind_and (λ (t : ℕ). asked (kinds_of ix t)) a.kind u (list_any (is_same_key l) a.keys)
@@ -190,12 +208,18 @@ attribute_lists ix a e (Equal u l) =
     alone : (ks : Kinds) (b : Bool) → ((asked ks && b) || (ks.substrings && false)) ≡ (asked ks && b)
     alone ks b = ap (λ (x : Bool). (asked ks && b) || x) (off ks.substrings) ∙ or_off (asked ks && b)
 attribute_lists ix a e (Run u g) =
-    any_same (is_from_key (kinds_of ix a.kind) a.kind (Run u g)) (λ k. (kinds_of ix a.kind).substrings && (nat_eq a.kind u && (nat_eq (length g) 3 && stands_in g k)))
-    (λ k. ap (λ (x : Bool). x || ((kinds_of ix a.kind).substrings && (nat_eq a.kind u && (nat_eq (length g) 3 && stands_in g k)))) (off ((kinds_of ix a.kind).equality || (kinds_of ix a.kind).ordering))) a.keys
+    any_same (is_from_key (kinds_of ix a.kind) a.kind (Run u g)) (λ k. (kinds_of ix a.kind).substrings
+    && (nat_eq a.kind u && (nat_eq (length g) 3 && stands_in g k)))
+    (λ k. ap (λ (x : Bool). x || ((kinds_of ix a.kind).substrings
+    && (nat_eq a.kind u && (nat_eq (length g) 3 && stands_in g k))))
+    (off ((kinds_of ix a.kind).equality || (kinds_of ix a.kind).ordering))) a.keys
     ∙ any_and (kinds_of ix a.kind).substrings (λ k. nat_eq a.kind u && (nat_eq (length g) 3 && stands_in g k)) a.keys
-    ∙ ap (λ (b : Bool). (kinds_of ix a.kind).substrings && b) (any_and (nat_eq a.kind u) (λ k. nat_eq (length g) 3 && stands_in g k) a.keys)
-    ∙ at_kind_and (λ (t : ℕ). (kinds_of ix t).substrings) a.kind u (list_any (λ k. nat_eq (length g) 3 && stands_in g k) a.keys)
-    ∙ ap (λ (b : Bool). (kinds_of ix u).substrings && (nat_eq a.kind u && b)) (any_and (nat_eq (length g) 3) (stands_in g) a.keys)
+    ∙ ap (λ (b : Bool). (kinds_of ix a.kind).substrings && b) (any_and (nat_eq a.kind u) (λ k. nat_eq (length g) 3
+    && stands_in g k) a.keys)
+    ∙ at_kind_and (λ (t : ℕ). (kinds_of ix t).substrings) a.kind u (list_any (λ k. nat_eq (length g) 3
+    && stands_in g k) a.keys)
+    ∙ ap (λ (b : Bool). (kinds_of ix u).substrings && (nat_eq a.kind u && b)) (any_and (nat_eq (length g) 3)
+    (stands_in g) a.keys)
     ∙ regroup (kinds_of ix u).substrings (nat_eq a.kind u) (nat_eq (length g) 3) (list_any (stands_in g) a.keys)
   where
     regroup : (s n l x : Bool) → (s && (n && (l && x))) ≡ ((s && l) && (n && x))
@@ -211,7 +235,8 @@ listed_none (Equal t k) = refl
 listed_none (Run t g) = refl
 
 -- an entry: what its first attribute brings, and the others
-pub entry_more : (ix : List Kinds) (a : KeyedAttribute) (e : List KeyedAttribute) (p : Posting) → (is_from_attribute ix a e p || lists_entry ix e p) ≡ lists_entry ix (a ∷ e) p
+pub entry_more : (ix : List Kinds) (a : KeyedAttribute) (e : List KeyedAttribute) (p : Posting) →
+    (is_from_attribute ix a e p || lists_entry ix e p) ≡ lists_entry ix (a ∷ e) p
 entry_more ix a e p =
     ap (λ (b : Bool). b || lists_entry ix e p) (attribute_lists ix a e p)
     ∙ both (is_kept ix p) (is_listed_by p a e) (is_listed p e)
@@ -222,9 +247,11 @@ entry_more ix a e p =
     both false x y = refl
 
 -- the same in a loop, which marks the attribute first
-pub entry_step : (ix : List Kinds) (a : KeyedAttribute) (e : List KeyedAttribute) (p : Posting) (old new : Bool) → new ≡ (is_from_attribute ix a e p || old) → (lists_entry ix e p || new) ≡ (lists_entry ix (a ∷ e) p || old)
+pub entry_step : (ix : List Kinds) (a : KeyedAttribute) (e : List KeyedAttribute) (p : Posting) (old new : Bool) →
+    new ≡ (is_from_attribute ix a e p || old) → (lists_entry ix e p || new) ≡ (lists_entry ix (a ∷ e) p || old)
 entry_step ix a e p old new h =
-    ap (λ (b : Bool). lists_entry ix e p || b) h ∙ or_swap (lists_entry ix e p) (is_from_attribute ix a e p) old ∙ sym (or_assoc (is_from_attribute ix a e p) (lists_entry ix e p) old)
+    ap (λ (b : Bool). lists_entry ix e p || b) h ∙ or_swap (lists_entry ix e p) (is_from_attribute ix a e p) old
+    ∙ sym (or_assoc (is_from_attribute ix a e p) (lists_entry ix e p) old)
     ∙ ap (λ (b : Bool). b || old) (entry_more ix a e p)
 
 pub entry_none : (ix : List Kinds) (p : Posting) → lists_entry ix [] p ≡ false
@@ -233,7 +260,9 @@ entry_none ix p = ap (λ (b : Bool). is_kept ix p && b) (listed_none p) ∙ off 
 -- ---- loops
 
 -- one more element of a list, before what was there
-pub any_more : {X : Type 0} (f : X → Bool) (xs : List X) (i : ℕ) (x : X) (b : Bool) → i < length xs → x ≡ get_or xs i x → (f x || (list_any f (take i xs) || b)) ≡ (list_any f (take (i + 1) xs) || b)
+pub any_more : {X : Type 0} (f : X → Bool) (xs : List X) (i : ℕ) (x : X) (b : Bool) → i < length xs →
+    x ≡ get_or xs i x → (f x || (list_any f (take i xs) || b)) ≡ (list_any f (take (i + 1) xs) || b)
 any_more f xs i x b l e =
-    ap (λ (y : Bool). y || (list_any f (take i xs) || b)) (ap f e) ∙ or_swap (f (get_or xs i x)) (list_any f (take i xs)) b ∙ sym (or_assoc (list_any f (take i xs)) (f (get_or xs i x)) b)
+    ap (λ (y : Bool). y || (list_any f (take i xs) || b)) (ap f e) ∙ or_swap (f (get_or xs i x))
+    (list_any f (take i xs)) b ∙ sym (or_assoc (list_any f (take i xs)) (f (get_or xs i x)) b)
     ∙ ap (λ (y : Bool). y || b) (sym (list_any_more f xs i x l))

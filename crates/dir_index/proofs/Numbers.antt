@@ -25,11 +25,14 @@ absorb true false c e = cc
 absorb false true c e = cc
 absorb false false c e = refl
 
-has_put : (r : Ordering) (n k x : ℕ) (xs ys : List ℕ) → nat_cmp k x ≡ r → has_number n ys ≡ (nat_eq n k || has_number n xs)
+has_put : (r : Ordering) (n k x : ℕ) (xs ys : List ℕ) → nat_cmp k x ≡ r → has_number n ys ≡
+    (nat_eq n k || has_number n xs)
     → has_number n (match_ordering r (k ∷ x ∷ xs) (x ∷ xs) (x ∷ ys)) ≡ (nat_eq n k || (nat_eq n x || has_number n xs))
 has_put Ordering.Less n k x xs ys e h = refl
-has_put Ordering.Equal n k x xs ys e h = absorb (nat_eq n x) (nat_eq n k) (has_number n xs) (ap (nat_eq n) (ranked k x Ordering.Equal (sym e)))
-has_put Ordering.Greater n k x xs ys e h = ap (λ (b : Bool). nat_eq n x || b) h ∙ or_swap (nat_eq n x) (nat_eq n k) (has_number n xs)
+has_put Ordering.Equal n k x xs ys e h = absorb (nat_eq n x) (nat_eq n k) (has_number n xs)
+    (ap (nat_eq n) (ranked k x Ordering.Equal (sym e)))
+has_put Ordering.Greater n k x xs ys e h = ap (λ (b : Bool). nat_eq n x || b) h ∙ or_swap (nat_eq n x) (nat_eq n k)
+    (has_number n xs)
 
 pub has-insert : (n k : ℕ) (xs : List ℕ) → has_number n (insert_key nat_cmp xs k) ≡ (nat_eq n k || has_number n xs)
 has-insert n k [] = refl
@@ -39,7 +42,8 @@ or_off : (b : Bool) → (b && true) ≡ b
 or_off true = refl
 or_off false = refl
 
-has_taken : (t : Bool) (n k x : ℕ) (xs ys : List ℕ) → nat_eq k x ≡ t → has_number x xs ≡ false → has_number n ys ≡ (has_number n xs && not (nat_eq n k))
+has_taken : (t : Bool) (n k x : ℕ) (xs ys : List ℕ) → nat_eq k x ≡ t → has_number x xs ≡ false → has_number n ys ≡
+    (has_number n xs && not (nat_eq n k))
     → has_number n (cond t xs (x ∷ ys)) ≡ ((nat_eq n x || has_number n xs) && not (nat_eq n k))
 has_taken true n k x xs ys e a h = pick (nat_eq n x) refl
   where
@@ -58,9 +62,11 @@ has_taken false n k x xs ys e a h = pick (nat_eq n x) refl
         differ d = let y : true ≡ false = sym (eq-eqb k x d) ∙ e in cc
     pick false f = h
 
-pub has-remove : (n k : ℕ) (xs : List ℕ) → IsRising xs → has_number n (remove_key (is_at (nat_cmp k)) xs) ≡ (has_number n xs && not (nat_eq n k))
+pub has-remove : (n k : ℕ) (xs : List ℕ) → IsRising xs → has_number n (remove_key (is_at (nat_cmp k)) xs) ≡
+    (has_number n xs && not (nat_eq n k))
 has-remove n k [] r = refl
-has-remove n k (x ∷ xs) r = has_taken (is_eq (nat_cmp k x)) n k x xs (remove_key (is_at (nat_cmp k)) xs) (unsigned_ties k x) (none_above x x xs r.0 (omega arith)) (has-remove n k xs r.1)
+has-remove n k (x ∷ xs) r = has_taken (is_eq (nat_cmp k x)) n k x xs (remove_key (is_at (nat_cmp k)) xs)
+    (unsigned_ties k x) (none_above x x xs r.0 (omega arith)) (has-remove n k xs r.1)
 
 pub rise_either : (b : Bool) (v w : List ℕ) → IsRising v → IsRising w → IsRising (cond b v w)
 rise_either true v w r s = r
@@ -71,44 +77,56 @@ none_of_length [] h = refl
 none_of_length (x ∷ xs) h = let e : length (x ∷ xs) ≡ 0 = eqb-true (length (x ∷ xs)) 0 h in absurd (omega arith)
 
 -- the list that a look-up finds
-pub copied_list : (r : Option (Bor (List ℕ))) (o : Option (List ℕ)) (x : Bor (List ℕ)) → option_copied r ≡ o → r ≡ Some x → x.now ≡ unwrap_or o []
+pub copied_list : (r : Option (Bor (List ℕ))) (o : Option (List ℕ)) (x : Bor (List ℕ)) → option_copied r ≡ o →
+    r ≡ Some x → x.now ≡ unwrap_or o []
 copied_list r o x h e = ap (λ (v : Option (List ℕ)). unwrap_or v []) (sym (ap option_copied e) ∙ h)
 
-pub copied_none : (r : Option (Bor (List ℕ))) (o : Option (List ℕ)) → option_copied r ≡ o → r ≡ None → unwrap_or o [] ≡ []
+pub copied_none : (r : Option (Bor (List ℕ))) (o : Option (List ℕ)) → option_copied r ≡ o → r ≡ None →
+    unwrap_or o [] ≡ []
 copied_none r o h e = ap (λ (v : Option (List ℕ)). unwrap_or v []) (sym h ∙ ap option_copied e)
 
 -- ---- lists of which one was written
 
 module _ (ls m : ListRows) (j : ListKey) (number : ℕ) where
-  pub enlisted_has : ((k : ListKey) → list_at m k ≡ cond (is_same_list j k) (insert_key nat_cmp (list_at ls j) number) (list_at ls k))
+  pub enlisted_has : ((k : ListKey) → list_at m k ≡ cond (is_same_list j k) (insert_key nat_cmp (list_at ls j) number)
+      (list_at ls k))
       → (k : ListKey) (n : ℕ) → is_in m k n ≡ ((is_same_list j k && nat_eq n number) || is_in ls k n)
   enlisted_has h k n = ap (has_number n) (h k) ∙ pick (is_same_list j k) refl
     where
-      pick : (b : Bool) → is_same_list j k ≡ b → has_number n (cond b (insert_key nat_cmp (list_at ls j) number) (list_at ls k)) ≡ ((b && nat_eq n number) || is_in ls k n)
+      pick : (b : Bool) → is_same_list j k ≡ b → has_number n (cond b (insert_key nat_cmp (list_at ls j) number)
+          (list_at ls k)) ≡ ((b && nat_eq n number) || is_in ls k n)
       pick true e = has-insert n number (list_at ls j) ∙ ap (λ q. nat_eq n number || is_in ls q n) (one_list j k e)
       pick false e = refl
 
-  pub struck_has : ((k : ListKey) → list_at m k ≡ cond (is_same_list j k) (remove_key (is_at (nat_cmp number)) (list_at ls j)) (list_at ls k))
-      → (k : ListKey) → IsRising (list_at ls k) → (n : ℕ) → is_in m k n ≡ (is_in ls k n && not (is_same_list j k && nat_eq n number))
+  pub struck_has : ((k : ListKey) → list_at m k ≡ cond (is_same_list j k) (remove_key (is_at (nat_cmp number))
+      (list_at ls j)) (list_at ls k))
+      → (k : ListKey) → IsRising (list_at ls k) → (n : ℕ) → is_in m k n ≡
+      (is_in ls k n && not (is_same_list j k && nat_eq n number))
   struck_has h k r n = ap (has_number n) (h k) ∙ pick (is_same_list j k) refl
     where
-      pick : (b : Bool) → is_same_list j k ≡ b → has_number n (cond b (remove_key (is_at (nat_cmp number)) (list_at ls j)) (list_at ls k)) ≡ (is_in ls k n && not (b && nat_eq n number))
+      pick : (b : Bool) → is_same_list j k ≡ b →
+          has_number n (cond b (remove_key (is_at (nat_cmp number)) (list_at ls j)) (list_at ls k)) ≡
+          (is_in ls k n && not (b && nat_eq n number))
       pick true e =
           let same = one_list j k e in
-          has-remove n number (list_at ls j) (subst (λ q. IsRising (list_at ls q)) (sym same) r) ∙ ap (λ q. is_in ls q n && not (nat_eq n number)) same
+          has-remove n number (list_at ls j) (subst (λ q. IsRising (list_at ls q)) (sym same) r)
+          ∙ ap (λ q. is_in ls q n && not (nat_eq n number)) same
       pick false e = sym (or_off (is_in ls k n))
 
 -- nothing to take out
-pub unstruck : (ls : ListRows) (j : ListKey) (number : ℕ) → list_at ls j ≡ [] → (k : ListKey) → list_at ls k ≡ cond (is_same_list j k) (remove_key (is_at (nat_cmp number)) (list_at ls j)) (list_at ls k)
+pub unstruck : (ls : ListRows) (j : ListKey) (number : ℕ) → list_at ls j ≡ [] → (k : ListKey) → list_at ls k ≡
+    cond (is_same_list j k) (remove_key (is_at (nat_cmp number)) (list_at ls j)) (list_at ls k)
 unstruck ls j number h k = pick (is_same_list j k) refl
   where
-    pick : (b : Bool) → is_same_list j k ≡ b → list_at ls k ≡ cond b (remove_key (is_at (nat_cmp number)) (list_at ls j)) (list_at ls k)
+    pick : (b : Bool) → is_same_list j k ≡ b → list_at ls k ≡ cond b (remove_key (is_at (nat_cmp number))
+        (list_at ls j)) (list_at ls k)
     pick true e = ap (list_at ls) (sym (one_list j k e)) ∙ h ∙ sym (ap (remove_key (is_at (nat_cmp number))) h)
     pick false e = refl
 
 -- ---- steps of the loops over the keys of one set that are not in another
 
-pub enlist_step : (n s m o i : Bool) → (s ≡ true → o ≡ false) → ((n && (m && not o)) || ((s && n) || i)) ≡ ((n && ((s || m) && not o)) || i)
+pub enlist_step : (n s m o i : Bool) → (s ≡ true → o ≡ false) → ((n && (m && not o)) || ((s && n) || i)) ≡
+    ((n && ((s || m) && not o)) || i)
 enlist_step false true m o i h = refl
 enlist_step false false m o i h = refl
 enlist_step true false m o i h = refl
@@ -129,7 +147,8 @@ skip_step true true m true h = off m
     off false = refl
 skip_step true true m false h = let e : false ≡ true = h refl in cc
 
-pub strike_step : (n s m o i : Bool) → (s ≡ true → o ≡ false) → ((i && not (s && n)) && not (n && (m && not o))) ≡ (i && not (n && ((s || m) && not o)))
+pub strike_step : (n s m o i : Bool) → (s ≡ true → o ≡ false) → ((i && not (s && n)) && not (n && (m && not o))) ≡
+    (i && not (n && ((s || m) && not o)))
 strike_step n s m o false h = refl
 strike_step false true m o true h = refl
 strike_step false false m o true h = refl
@@ -138,7 +157,8 @@ strike_step true true m true true h = let e : true ≡ false = h refl in cc
 strike_step true true m false true h = refl
 
 -- both loops together
-pub both_steps : (n b a i : Bool) → ((((n && (a && not b)) || i)) && not (n && (b && not a))) ≡ cond n ((i || (a && not b)) && not (b && not a)) i
+pub both_steps : (n b a i : Bool) → ((((n && (a && not b)) || i)) && not (n && (b && not a))) ≡
+    cond n ((i || (a && not b)) && not (b && not a)) i
 both_steps false b a true = refl
 both_steps false b a false = refl
 both_steps true b a true = flip (a && not b) (not (b && not a))

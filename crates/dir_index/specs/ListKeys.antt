@@ -14,7 +14,8 @@ key_of p = record { type_id = type_of p; rank = rank_of p; octets = octets_of p 
 
 -- the order of the keys is that of the postings
 abbrev pub list_order : ListKey → ListKey → Ordering
-list_order = then_cmp (on (λ k. k.type_id) nat_cmp) (then_cmp (on (λ k. k.rank) nat_cmp) (on (λ k. k.octets) (slice_cmp nat_cmp)))
+list_order = then_cmp (on (λ k. k.type_id) nat_cmp) (then_cmp (on (λ k. k.rank) nat_cmp)
+    (on (λ k. k.octets) (slice_cmp nat_cmp)))
 
 -- whether two keys are one
 abbrev pub is_same_list : ListKey → ListKey → Bool

@@ -13,9 +13,11 @@ use Rattle.index_choice.specs.dir_entry.ldap_dn.OrderLaws.{is_eq-then, tied}
 
 -- postings are in a total order
 pub posting_total : IsTotalOrder posting_order
-posting_total = then_total (on_total type_of nat_cmp_total) (then_total (on_total rank_of nat_cmp_total) (on_total octets_of nat_list_cmp_total))
+posting_total = then_total (on_total type_of nat_cmp_total) (then_total (on_total rank_of nat_cmp_total)
+    (on_total octets_of nat_list_cmp_total))
 
-ties_of : (t u r s : ℕ) (k l : List ℕ) → (nat_eq t u && (nat_eq r s && bytes_eq k l)) ≡ is_eq (ordering_then (nat_cmp t u) (ordering_then (nat_cmp r s) (slice_cmp nat_cmp k l)))
+ties_of : (t u r s : ℕ) (k l : List ℕ) → (nat_eq t u && (nat_eq r s && bytes_eq k l)) ≡
+    is_eq (ordering_then (nat_cmp t u) (ordering_then (nat_cmp r s) (slice_cmp nat_cmp k l)))
 ties_of t u r s k l =
     ap (λ (b : Bool). b && (nat_eq r s && bytes_eq k l)) (unsigned_ties t u)
     ∙ ap (λ (b : Bool). is_eq (nat_cmp t u) && (b && bytes_eq k l)) (unsigned_ties r s)
@@ -33,7 +35,9 @@ posting_equiv = tied {K = Posting} {R = posting_order} is_same_posting posting_t
 
 -- the same of the keys of lists
 pub list_total : IsTotalOrder list_order
-list_total = then_total (on_total (λ (k : ListKey). k.type_id) nat_cmp_total) (then_total (on_total (λ (k : ListKey). k.rank) nat_cmp_total) (on_total (λ (k : ListKey). k.octets) nat_list_cmp_total))
+list_total = then_total (on_total (λ (k : ListKey). k.type_id) nat_cmp_total)
+    (then_total (on_total (λ (k : ListKey). k.rank) nat_cmp_total) (on_total (λ (k : ListKey). k.octets)
+    nat_list_cmp_total))
 
 -- the order finds no difference between the keys of lists exactly where they are the same
 pub list_ties : (j k : ListKey) → is_same_list j k ≡ is_eq (list_order j k)

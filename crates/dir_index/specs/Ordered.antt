@@ -34,4 +34,5 @@ posting_order = then_cmp (on type_of nat_cmp) (then_cmp (on rank_of nat_cmp) (on
 
 -- whether two postings are one
 abbrev pub is_same_posting : Posting → Posting → Bool
-is_same_posting p q = nat_eq (type_of p) (type_of q) && (nat_eq (rank_of p) (rank_of q) && bytes_eq (octets_of p) (octets_of q))
+is_same_posting p q = nat_eq (type_of p) (type_of q) && (nat_eq (rank_of p) (rank_of q) && bytes_eq (octets_of p)
+    (octets_of q))

@@ -24,7 +24,8 @@ is_of t a = nat_eq a.kind t
 abbrev pub has_type : ℕ → List KeyedAttribute → Bool
 has_type t e = list_any (is_of t) e
 
--- whether an entry may have several values of a type: an attribute of it has several, or there are several such attributes
+-- whether an entry may have several values of a type: an attribute of it has several, or there are several such
+-- attributes
 abbrev pub has_several : ℕ → List KeyedAttribute → Bool
 has_several t [] = false
 has_several t (a ∷ e) = (is_of t a && (nat_lt 1 (length a.keys) || has_type t e)) || has_several t e
@@ -44,7 +45,8 @@ is_listed (Several t) e = has_several t e
 is_listed (Equal t k) e = some_key t (is_same_key k) e
 is_listed (Run t g) e = some_key t (stands_in g) e
 
--- Whether the index choice has a posting's index. An index of values in order has the entries with each value too, and those that may have
+-- Whether the index choice has a posting's index. An index of values in order has the entries with each value too, and
+-- those that may have
 -- several; a run has three octets.
 abbrev pub is_kept : List Kinds → Posting → Bool
 is_kept ix (Present t) = (kinds_of ix t).presence

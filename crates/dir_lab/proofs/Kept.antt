@@ -37,24 +37,29 @@ same_or i j = go (j == i) refl
     go false e = inr (λ q. true≢false (sym (eq-eqb j i q) ∙ e))
 
 -- a place that is taken out and written again
-module _ (old new : List (Option ExecutedValue)) (i : ℕ) (gone o : Option ExecutedValue) (is : new ≡ set (set old i gone) i o) (within : i < length old) where
+module _ (old new : List (Option ExecutedValue)) (i : ℕ) (gone o : Option ExecutedValue)
+    (is : new ≡ set (set old i gone) i o) (within : i < length old) where
   -- as many as before
   pub counted : length new ≡ length old
   counted = ap length is ∙ length-set (set old i gone) i o ∙ length-set old i gone
 
   -- what it has
   pub here : slice_get new i ≡ Some o
-  here = ap (λ (l : List (Option ExecutedValue)). slice_get l i) is ∙ get_here (set old i gone) i o (omega (arith, within, length-set old i gone))
+  here = ap (λ (l : List (Option ExecutedValue)). slice_get l i) is ∙ get_here (set old i gone) i o
+      (omega (arith, within, length-set old i gone))
 
   -- what the others have
   pub there : (j : ℕ) → j ≢ i → slice_get new j ≡ slice_get old j
-  there j ne = ap (λ (l : List (Option ExecutedValue)). slice_get l j) is ∙ get_there (set old i gone) i j o ne ∙ get_there old i j gone ne
+  there j ne = ap (λ (l : List (Option ExecutedValue)). slice_get l j) is ∙ get_there (set old i gone) i j o ne
+      ∙ get_there old i j gone ne
 
   -- It has caught up, where it did.
-  pub advanced : (w : World OpValue) (before : Option ExecutedValue) → slice_get old i ≡ Some before → records_of o ≡ caught_up (records_of before) (w.replicas i) → IsAdvancedAt w old i new
+  pub advanced : (w : World OpValue) (before : Option ExecutedValue) → slice_get old i ≡ Some before → records_of o ≡
+      caught_up (records_of before) (w.replicas i) → IsAdvancedAt w old i new
   advanced w before was e = record {
     counted = counted;
-    here = ap records_in here ∙ e ∙ ap (λ (x : Option (Option ExecutedValue)). caught_up (records_in x) (w.replicas i)) (sym was);
+    here = ap records_in here ∙ e ∙ ap (λ (x : Option (Option ExecutedValue)). caught_up (records_in x)
+        (w.replicas i)) (sym was);
     there = λ j ne. ap records_in (there j ne);
   }
 
@@ -67,24 +72,29 @@ module _ (old new : List (Option ExecutedValue)) (i : ℕ) (gone o : Option Exec
       go (inr ne) = all j x (sym (there j ne) ∙ h)
 
 -- The places below one have caught up, and the others are as they were.
-pub record UpTo (w : World OpValue) (old : List (Option ExecutedValue)) (k : ℕ) (new : List (Option ExecutedValue)) : Type 0 where
+pub record UpTo (w : World OpValue) (old : List (Option ExecutedValue)) (k : ℕ) (new : List (Option ExecutedValue)) :
+    Type 0 where
   pub counted : length new ≡ length old
   pub done : (j : ℕ) → j < k → records_by new j ≡ caught_up (records_by old j) (w.replicas j)
   pub left : (j : ℕ) → k ≤ j → records_by new j ≡ records_by old j
 
 -- All of them: where there is no place there is no replica.
-pub up_to_all : (cluster : Cluster OpValue) (old new : List (Option ExecutedValue)) (k : ℕ) → cluster.count ≤ k → length old ≡ cluster.count → length cluster.up.items ≡ cluster.count
+pub up_to_all : (cluster : Cluster OpValue) (old new : List (Option ExecutedValue)) (k : ℕ) → cluster.count ≤ k →
+    length old ≡ cluster.count → length cluster.up.items ≡ cluster.count
     → UpTo (world cluster) old k new → records_by new ≡ all_caught_up (records_by old) (world cluster)
 up_to_all cluster old new k end kept up u = λ t. λ j. each j (cases_lt j cluster.count) t
   where
-    each : (j : ℕ) → (j < cluster.count) ⊎ (cluster.count ≤ j) → records_by new j ≡ all_caught_up (records_by old) (world cluster) j
+    each : (j : ℕ) → (j < cluster.count) ⊎ (cluster.count ≤ j) → records_by new j ≡ all_caught_up (records_by old)
+        (world cluster) j
     each j (inl lt) = u.done j (omega (arith, lt, end))
     each j (inr le) =
         ap records_in (slice_get_past new j (omega (arith, u.counted, kept, le)))
-        ∙ sym (ap (λ (o : Option (State OpValue)). caught_up (records_by old j) o) (ap up_state (slice_get_past cluster.up.items j (omega (arith, up, le)))))
+        ∙ sym (ap (λ (o : Option (State OpValue)). caught_up (records_by old j) o)
+        (ap up_state (slice_get_past cluster.up.items j (omega (arith, up, le)))))
 
 -- nothing is kept at first
-pub none_by : (n : ℕ) (kept : List (Option ExecutedValue)) → kept ≡ replicate n None → ◌≡◌ {A = ℕ → List (LogEntry OpValue)} (records_by kept) (λ i. [])
+pub none_by : (n : ℕ) (kept : List (Option ExecutedValue)) → kept ≡ replicate n None →
+    ◌≡◌ {A = ℕ → List (LogEntry OpValue)} (records_by kept) (λ i. [])
 none_by n kept e = λ t. λ i. (ap (λ (l : List (Option ExecutedValue)). records_by l i) e ∙ each n i) t
   where
     each : (n i : ℕ) → records_by (replicate n None) i ≡ []
@@ -93,5 +103,6 @@ none_by n kept e = λ t. λ i. (ap (λ (l : List (Option ExecutedValue)). record
     each (suc n) (suc i) = each n i
 
 -- what is kept at a place
-pub records_here : (kept : List (Option ExecutedValue)) (i : ℕ) (o : Option ExecutedValue) → o ≡ get_or kept i o → i < length kept → records_of o ≡ records_by kept i
+pub records_here : (kept : List (Option ExecutedValue)) (i : ℕ) (o : Option ExecutedValue) → o ≡ get_or kept i o →
+    i < length kept → records_of o ≡ records_by kept i
 records_here kept i o is within = ap records_of is ∙ sym (ap records_in (slice_get-get_or kept i o within))

@@ -46,7 +46,8 @@ AllFine Is [] = Unit {0}
 AllFine Is (x ∷ xs) = Fine Is x × AllFine Is xs
 
 -- one of them is
-fine_in : (Is : ReplyBy → ℕ → Type 0) (xs : List Shown) → AllFine Is xs → (t : ReplyBy) (code : ℕ) → In (Replied t code) xs → Is t code
+fine_in : (Is : ReplyBy → ℕ → Type 0) (xs : List Shown) → AllFine Is xs → (t : ReplyBy) (code : ℕ) →
+    In (Replied t code) xs → Is t code
 fine_in Is [] h t code i = absurd i
 fine_in Is (x ∷ xs) h t code (inl e) = subst (Fine Is) (sym e) h.0
 fine_in Is (x ∷ xs) h t code (inr i) = fine_in Is xs h.1 t code i
@@ -57,17 +58,21 @@ fine_both Is [] ys h k = k
 fine_both Is (x ∷ xs) ys h k = (h.0, fine_both Is xs ys h.1 k)
 
 -- replies that are told
-fine_told : (Is : ReplyBy → ℕ → Type 0) (s : SchemaModel) (root : List RdnModel) (records : ℕ → List (LogEntry OpValue)) (ts : List ReplyBy)
+fine_told : (Is : ReplyBy → ℕ → Type 0) (s : SchemaModel) (root : List RdnModel) (records : ℕ →
+    List (LogEntry OpValue)) (ts : List ReplyBy)
     → ((t : ReplyBy) → In t ts → Fine Is (told s root records t)) → AllFine Is (map (told s root records) ts)
 fine_told Is s root records [] h = tt
 fine_told Is s root records (t ∷ ts) h = (h t (inl refl), fine_told Is s root records ts (λ u i. h u (inr i)))
 
 -- what a search shows is no reply,
-fine_found : (Is : ReplyBy → ℕ → Type 0) (s : SchemaModel) (root : List RdnModel) (records : List (LogEntry OpValue)) (named : ℕ) (q : SearchRequestValue) (o : Option (State OpValue)) → Fine Is (found s root records named q o)
+fine_found : (Is : ReplyBy → ℕ → Type 0) (s : SchemaModel) (root : List RdnModel) (records : List (LogEntry OpValue))
+    (named : ℕ) (q : SearchRequestValue) (o : Option (State OpValue)) → Fine Is (found s root records named q o)
 fine_found Is s root records named q None = tt
 fine_found Is s root records named q (Some r) = by (is_recovering r.status) (nat_lt r.commit_number named)
   where
-    by : (a b : Bool) → Fine Is (cond a Unavailable (cond b (NotYet r.commit_number) (Answered r.commit_number (answer (directory_of s root (ops_of records)) q))))
+    by : (a b : Bool) → Fine Is
+        (cond a Unavailable (cond b (NotYet r.commit_number)
+        (Answered r.commit_number (answer (directory_of s root (ops_of records)) q))))
     by true b = tt
     by false true = tt
     by false false = tt
@@ -95,7 +100,8 @@ in_either {A} x (y ∷ xs) ys (inr h) = go (in_either x xs ys h)
 -- what is in a list the other way
 in_reverse : {A : Type 0} (x : A) (xs : List A) → In x (reverse xs) → In x xs
 in_reverse x [] h = h
-in_reverse {A} x (y ∷ xs) h = go (in_either x (reverse xs) (y ∷ []) (subst (In x) (reverse-append (y ∷ []) xs) h)) (in_reverse x xs)
+in_reverse {A} x (y ∷ xs) h = go (in_either x (reverse xs) (y ∷ []) (subst (In x) (reverse-append (y ∷ []) xs) h))
+    (in_reverse x xs)
   where
     go : In x (reverse xs) ⊎ In x (y ∷ []) → (In x (reverse xs) → In x xs) → In x (y ∷ xs)
     go (inl k) ih = inr (ih k)
@@ -115,7 +121,8 @@ pub none_since : (before : ℕ) (replies : List ReplyBy) → length replies ≤ 
 none_since before replies h = drop_of_length-le replies h
 
 -- a place within a list stays as it goes on
-get_front : {A : Type 0} (xs ys : List A) (k : ℕ) → k < length xs → (x : A) × (slice_get xs k ≡ Some x) × (slice_get (xs ++ ys) k ≡ Some x)
+get_front : {A : Type 0} (xs ys : List A) (k : ℕ) → k < length xs → (x : A) × (slice_get xs k ≡ Some x)
+    × (slice_get (xs ++ ys) k ≡ Some x)
 get_front [] ys k h = absurd (omega (arith, h))
 get_front (x ∷ xs) ys zero h = (x, refl, refl)
 get_front (x ∷ xs) ys (suc k) h = get_front xs ys k (omega (arith, h))
@@ -130,14 +137,17 @@ ops_length [] = refl
 ops_length (e ∷ es) = ap suc (ops_length es)
 
 -- the place of a record that is named
-place : (t : ReplyBy) (records : List (LogEntry OpValue)) → IsNamedIn t.reply records → t.reply.op_number - 1 < length records
+place : (t : ReplyBy) (records : List (LogEntry OpValue)) → IsNamedIn t.reply records → t.reply.op_number - 1 < length
+    records
 place t records h =
     omega (arith, h.at.op_number, prefix_length h.at.within, length-append h.at.front (h.entry ∷ []))
 
 -- a reply over a beginning of what is committed
-module _ (s : SchemaModel) (root : List RdnModel) (all : List (LogEntry OpValue)) (t : ReplyBy) (records : List (LogEntry OpValue)) (begins : IsPrefix records all) (named : IsNamedIn t.reply records) where
+module _ (s : SchemaModel) (root : List RdnModel) (all : List (LogEntry OpValue)) (t : ReplyBy)
+    (records : List (LogEntry OpValue)) (begins : IsPrefix records all) (named : IsNamedIn t.reply records) where
   -- the replies to all go on from those to the beginning
-  goes_on : replies_of s root (ops_of all) ≡ replies_of s root (ops_of records) ++ replies_after (directory_after (empty_directory s root) 0 (ops_of records)) (0 + length (ops_of records)) (ops_of begins.rest)
+  goes_on : replies_of s root (ops_of all) ≡ replies_of s root (ops_of records) ++ replies_after
+      (directory_after (empty_directory s root) 0 (ops_of records)) (0 + length (ops_of records)) (ops_of begins.rest)
   goes_on =
       ap (λ (l : List (LogEntry OpValue)). replies_of s root (ops_of l)) (sym begins.is)
       ∙ ap (λ l. replies_of s root l) (map-append (λ (e : LogEntry OpValue). e.payload) records begins.rest)
@@ -146,10 +156,29 @@ module _ (s : SchemaModel) (root : List RdnModel) (all : List (LogEntry OpValue)
   -- so its code is that of the reply to the record at its place
   of_all : IsReplyOf s root all t (code_at (replies_of s root (ops_of records)) t.reply.op_number)
   of_all =
-      let found = get_front (replies_of s root (ops_of records)) (replies_after (directory_after (empty_directory s root) 0 (ops_of records)) (0 + length (ops_of records)) (ops_of begins.rest)) (t.reply.op_number - 1)
-      (omega (arith, place t records named, replies_length (empty_directory s root) 0 (ops_of records), ops_length records)) in
+      let found = get_front (replies_of s root (ops_of records))
+      (replies_after (directory_after (empty_directory s root) 0 (ops_of records))
+      (0 + length (ops_of records)) (ops_of begins.rest)) (t.reply.op_number - 1)
+      (omega (
+        arith,
+        place t records named,
+        replies_length (empty_directory s root) 0 (ops_of
+            records),
+        ops_length records,
+      )) in
       record {
-        named = record { entry = named.entry; at = record { front = named.at.front; within = prefix_trans named.at.within begins; op_number = named.at.op_number }; client = named.client; request_number = named.request_number };
+        named = record {
+          entry = named.entry;
+          at = record {
+            front = named.at.front;
+            within = prefix_trans
+                named.at.within begins;
+            op_number = named.at.op_number;
+          };
+          client = named.client;
+          request_number =
+              named.request_number;
+        };
         reply = found.0;
         at = ap (λ l. slice_get l (t.reply.op_number - 1)) goes_on ∙ found.2;
         code = ap (λ (o : Option ReplyModel). option_map_or (λ (x : ReplyModel). x.code) o 80) found.1;
@@ -157,8 +186,10 @@ module _ (s : SchemaModel) (root : List RdnModel) (all : List (LogEntry OpValue)
 
 module _ (s : SchemaModel) (root : List RdnModel) (n : ℕ) (size : IsSize n) (all : List (LogEntry OpValue)) where
   -- the replies of one event
-  fine_event : (past : List (WorldEvent OpValue)) (e : WorldEvent OpValue) → IsPrefix (committed n (happens n (after n past) e).messages) all
-      → AllFine (IsReplyOf s root all) (map (told s root (executions (happens n (after n past) e))) (given_since (after n past) (happens n (after n past) e)))
+  fine_event : (past : List (WorldEvent OpValue)) (e : WorldEvent OpValue) →
+      IsPrefix (committed n (happens n (after n past) e).messages) all
+      → AllFine (IsReplyOf s root all) (map (told s root (executions (happens n (after n past) e)))
+      (given_since (after n past) (happens n (after n past) e)))
   fine_event past e begins = fine_told (IsReplyOf s root all) s root (executions new) (given_since old new)
       (λ t i. one t (g.executed t (in_reverse t g.given (subst (In t) (since_is old new g) i))))
     where
@@ -174,19 +205,27 @@ module _ (s : SchemaModel) (root : List RdnModel) (n : ℕ) (size : IsSize n) (a
       same : after n (past ++ e ∷ []) ≡ new
       same = run-append n past (e ∷ []) (start n)
 
-      one : (t : ReplyBy) → IsExecuted new t → IsReplyOf s root all t (code_at (replies_of s root (ops_of (executions new t.replica))) t.reply.op_number)
-      one t x = subst (λ (l : List (LogEntry OpValue)). IsReplyOf s root all t (code_at (replies_of s root (ops_of l)) t.reply.op_number)) (sym (ap executed x.up))
+      one : (t : ReplyBy) → IsExecuted new t →
+          IsReplyOf s root all t (code_at (replies_of s root (ops_of (executions new t.replica))) t.reply.op_number)
+      one t x = subst (λ (l : List (LogEntry OpValue)). IsReplyOf s root all t (code_at (replies_of s root (ops_of l))
+          t.reply.op_number)) (sym (ap executed x.up))
           (of_all s root all t (take x.replica.commit_number x.replica.log)
-          (prefix_trans (subst (λ (w : World OpValue). IsPrefix (take x.replica.commit_number x.replica.log) (committed n w.messages)) same
-          (replicas_agree n size (past ++ e ∷ []) t.replica x.replica (subst (λ (w : World OpValue). w.replicas t.replica ≡ Some x.replica) (sym same) x.up))) begins) x.named)
+          (prefix_trans (subst (λ (w : World OpValue). IsPrefix (take x.replica.commit_number x.replica.log)
+          (committed n w.messages)) same
+          (replicas_agree n size (past ++ e ∷ []) t.replica x.replica
+          (subst (λ (w : World OpValue). w.replicas t.replica ≡ Some x.replica) (sym same) x.up))) begins) x.named)
 
   -- all that is shown of a schedule from a world on, where what is committed at its end begins this list
-  fine_from : (past : List (WorldEvent OpValue)) (es : List LabEvent) → IsPrefix (committed n (after n (past ++ happenings es)).messages) all → AllFine (IsReplyOf s root all) (shown_from s root n es (after n past))
+  fine_from : (past : List (WorldEvent OpValue)) (es : List LabEvent) →
+      IsPrefix (committed n (after n (past ++ happenings es)).messages) all → AllFine (IsReplyOf s root all)
+      (shown_from s root n es (after n past))
   fine_from past [] begins = tt
   fine_from past (Happens e ∷ es) begins =
       fine_both (IsReplyOf s root all) _ _ (fine_event past e here)
       (subst (λ (w : World OpValue). AllFine (IsReplyOf s root all) (shown_from s root n es w)) same
-      (fine_from (past ++ e ∷ []) es (subst (λ (l : List (WorldEvent OpValue)). IsPrefix (committed n (after n l).messages) all) (sym joined) begins)))
+      (fine_from (past ++ e ∷ []) es
+      (subst (λ (l : List (WorldEvent OpValue)). IsPrefix (committed n (after n l).messages) all) (sym joined)
+      begins)))
     where
       same : after n (past ++ e ∷ []) ≡ happens n (after n past) e
       same = run-append n past (e ∷ []) (start n)
@@ -196,13 +235,20 @@ module _ (s : SchemaModel) (root : List RdnModel) (n : ℕ) (size : IsSize n) (a
 
       here : IsPrefix (committed n (happens n (after n past) e).messages) all
       here = subst (λ (w : World OpValue). IsPrefix (committed n w.messages) all) same
-          (prefix_trans (committed_grows n size (past ++ e ∷ []) (happenings es)) (subst (λ (l : List (WorldEvent OpValue)). IsPrefix (committed n (after n l).messages) all) (sym joined) begins))
+          (prefix_trans (committed_grows n size (past ++ e ∷ []) (happenings es))
+          (subst (λ (l : List (WorldEvent OpValue)). IsPrefix (committed n (after n l).messages) all) (sym joined)
+          begins))
   fine_from past (Search i named q ∷ es) begins =
-      fine_both (IsReplyOf s root all) _ _ (fine_if (IsReplyOf s root all) (nat_lt i n) _ (fine_found (IsReplyOf s root all) s root (executions (after n past) i) named (search_view q) ((after n past).replicas i))) (fine_from past es begins)
+      fine_both (IsReplyOf s root all) _ _ (fine_if (IsReplyOf s root all) (nat_lt i n) _
+      (fine_found (IsReplyOf s root all) s root (executions (after n past) i) named (search_view q)
+      ((after n past).replicas i))) (fine_from past es begins)
   fine_from past (Question i ∷ es) begins =
-      fine_both (IsReplyOf s root all) _ _ (fine_if (IsReplyOf s root all) (nat_lt i n) _ (fine_standing (IsReplyOf s root all) i ((after n past).replicas i))) (fine_from past es begins)
+      fine_both (IsReplyOf s root all) _ _ (fine_if (IsReplyOf s root all) (nat_lt i n) _
+      (fine_standing (IsReplyOf s root all) i ((after n past).replicas i))) (fine_from past es begins)
 
 -- Each reply is of what is committed.
-pub replies_are_of_committed : (s : SchemaModel) (root : List RdnModel) (n : ℕ) (es : List LabEvent) (shown : List Shown) → (IsSize n → shown ≡ shown_by s root n es) → RepliesAreOfCommitted s root n es shown
+pub replies_are_of_committed : (s : SchemaModel) (root : List RdnModel) (n : ℕ) (es : List LabEvent)
+    (shown : List Shown) → (IsSize n → shown ≡ shown_by s root n es) → RepliesAreOfCommitted s root n es shown
 replies_are_of_committed s root n es shown h size t code i =
-    fine_in (IsReplyOf s root (committed_by n es)) (shown_by s root n es) (fine_from s root n size (committed_by n es) [] es (prefix_refl (committed_by n es))) t code (subst (In (Replied t code)) (h size) i)
+    fine_in (IsReplyOf s root (committed_by n es)) (shown_by s root n es) (fine_from s root n size (committed_by n es)
+    [] es (prefix_refl (committed_by n es))) t code (subst (In (Replied t code)) (h size) i)

@@ -26,12 +26,15 @@ use Rattle.dir_lab.specs.declared.events.LabEvent.TheVariants.{Search}
 use Rattle.dir_lab.proofs.Schedules.{happenings-append, shown-append}
 
 -- What is committed in the middle begins what is committed at the end.
-pub committed_on : (n : ℕ) → IsSize n → (es more : List LabEvent) → IsPrefix (committed_by n es) (committed_by n (es ++ more))
+pub committed_on : (n : ℕ) → IsSize n → (es more : List LabEvent) → IsPrefix (committed_by n es)
+    (committed_by n (es ++ more))
 committed_on n size es more =
-    subst (λ (l : List (WorldEvent OpValue)). IsPrefix (committed_by n es) (committed n (after n l).messages)) (sym (happenings-append es more))
+    subst (λ (l : List (WorldEvent OpValue)). IsPrefix (committed_by n es) (committed n (after n l).messages))
+    (sym (happenings-append es more))
     (committed_grows n size (happenings es) (happenings more))
 
-module _ (s : SchemaModel) (root : List RdnModel) (n : ℕ) (size : IsSize n) (es more : List LabEvent) (i named : ℕ) (q : SearchRequestValue) where
+module _ (s : SchemaModel) (root : List RdnModel) (n : ℕ) (size : IsSize n) (es more : List LabEvent) (i named : ℕ)
+    (q : SearchRequestValue) where
   -- the world at the search
   abbrev here : World OpValue
   here = after n (happenings es)
@@ -43,19 +46,24 @@ module _ (s : SchemaModel) (root : List RdnModel) (n : ℕ) (size : IsSize n) (e
   -- one that is down or recovers
   away : (o : Option (State OpValue)) → IsAway o → told o ≡ Unavailable
   away None h = refl
-  away (Some r) h = ap (λ b. cond b Unavailable (cond (nat_lt r.commit_number named) (NotYet r.commit_number) (Answered r.commit_number (answer (directory_of s root (ops_of (take r.commit_number r.log))) q)))) h
+  away (Some r) h = ap (λ b. cond b Unavailable (cond (nat_lt r.commit_number named) (NotYet r.commit_number)
+      (Answered r.commit_number (answer (directory_of s root (ops_of (take r.commit_number r.log))) q)))) h
 
   -- one that does neither
   up : (r : State OpValue) → is_recovering r.status ≡ false
-      → told (Some r) ≡ cond (nat_lt r.commit_number named) (NotYet r.commit_number) (Answered r.commit_number (answer (directory_of s root (ops_of (take r.commit_number r.log))) q))
-  up r h = ap (λ b. cond b Unavailable (cond (nat_lt r.commit_number named) (NotYet r.commit_number) (Answered r.commit_number (answer (directory_of s root (ops_of (take r.commit_number r.log))) q)))) h
+      → told (Some r) ≡ cond (nat_lt r.commit_number named) (NotYet r.commit_number)
+      (Answered r.commit_number (answer (directory_of s root (ops_of (take r.commit_number r.log))) q))
+  up r h = ap (λ b. cond b Unavailable (cond (nat_lt r.commit_number named) (NotYet r.commit_number)
+      (Answered r.commit_number (answer (directory_of s root (ops_of (take r.commit_number r.log))) q)))) h
 
   -- what it has committed begins what is committed at the end
-  begins : (r : State OpValue) → here.replicas i ≡ Some r → IsPrefix (take r.commit_number r.log) (committed_by n (es ++ more))
+  begins : (r : State OpValue) → here.replicas i ≡ Some r → IsPrefix (take r.commit_number r.log)
+      (committed_by n (es ++ more))
   begins r is = prefix_trans (replicas_agree n size (happenings es) i r is) (committed_on n size es more)
 
   -- its answer
-  answers : (r : State OpValue) → here.replicas i ≡ Some r → IsAnswerAt s root (committed_by n (es ++ more)) r.commit_number q (answer (directory_of s root (ops_of (take r.commit_number r.log))) q)
+  answers : (r : State OpValue) → here.replicas i ≡ Some r → IsAnswerAt s root (committed_by n (es ++ more))
+      r.commit_number q (answer (directory_of s root (ops_of (take r.commit_number r.log))) q)
   answers r is = record {
     beginning = take r.commit_number r.log;
     begins = begins r is;
@@ -69,23 +77,30 @@ module _ (s : SchemaModel) (root : List RdnModel) (n : ℕ) (size : IsSize n) (e
   is_told = record {
     unavailable = λ h. away (here.replicas i) h;
     not_yet = λ r lt. ap told r.up ∙ up r.replica r.status
-        ∙ ap (λ b. cond b (NotYet r.replica.commit_number) (Answered r.replica.commit_number (answer (directory_of s root (ops_of (take r.replica.commit_number r.replica.log))) q))) (lt-ltb r.replica.commit_number named lt);
+        ∙ ap (λ b. cond b (NotYet r.replica.commit_number) (Answered r.replica.commit_number
+        (answer (directory_of s root (ops_of (take r.replica.commit_number r.replica.log))) q)))
+        (lt-ltb r.replica.commit_number named lt);
     answered = λ r le. (
       answer (directory_of s root (ops_of (take r.replica.commit_number r.replica.log))) q,
       ap told r.up ∙ up r.replica r.status
-          ∙ ap (λ b. cond b (NotYet r.replica.commit_number) (Answered r.replica.commit_number (answer (directory_of s root (ops_of (take r.replica.commit_number r.replica.log))) q))) (le-ltb r.replica.commit_number named le),
+          ∙ ap (λ b. cond b (NotYet r.replica.commit_number) (Answered r.replica.commit_number
+          (answer (directory_of s root (ops_of (take r.replica.commit_number r.replica.log))) q)))
+          (le-ltb r.replica.commit_number named le),
       answers r.replica r.up,
     );
   }
 
 -- Each search is told of.
-pub searches_are_told : (s : SchemaModel) (root : List RdnModel) (n : ℕ) (es : List LabEvent) (shown : List Shown) → (IsSize n → shown ≡ shown_by s root n es) → SearchesAreTold s root n es shown
+pub searches_are_told : (s : SchemaModel) (root : List RdnModel) (n : ℕ) (es : List LabEvent) (shown : List Shown) →
+    (IsSize n → shown ≡ shown_by s root n es) → SearchesAreTold s root n es shown
 searches_are_told s root n es shown h size before behind i named q cut within = record {
   one = found s root (executions w i) named (search_view q) (w.replicas i);
   rest = shown_from s root n behind w;
   split = h size ∙ ap (shown_by s root n) cut ∙ shown-append s root n before (Search i named q ∷ behind) (start n)
-      ∙ ap (λ b. shown_by s root n before ++ (cond b (found s root (executions w i) named (search_view q) (w.replicas i) ∷ []) [] ++ shown_from s root n behind w)) (lt-ltb i n within);
-  is = subst (λ (l : List LabEvent). IsTold s root (committed_by n l) (w.replicas i) named (search_view q) (found s root (executions w i) named (search_view q) (w.replicas i))) (sym cut)
+      ∙ ap (λ b. shown_by s root n before ++ (cond b (found s root (executions w i) named (search_view q)
+      (w.replicas i) ∷ []) [] ++ shown_from s root n behind w)) (lt-ltb i n within);
+  is = subst (λ (l : List LabEvent). IsTold s root (committed_by n l) (w.replicas i) named (search_view q)
+      (found s root (executions w i) named (search_view q) (w.replicas i))) (sym cut)
       (is_told s root n size before (Search i named q ∷ behind) i named (search_view q));
 }
   where

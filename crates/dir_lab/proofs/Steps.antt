@@ -14,25 +14,33 @@ use Rattle.dir_lab.specs.Schedule.{executed, executions}
 
 -- a list goes on to one that it begins
 go_on : {A : Type 0} (done all : List A) → IsPrefix done all → done ++ drop (length done) all ≡ all
-go_on {A} done all p = subst (λ (l : List A). done ++ drop (length done) l ≡ l) p.is (ap (λ l. done ++ l) (drop-append_seam done p.rest))
+go_on {A} done all p = subst (λ (l : List A). done ++ drop (length done) l ≡ l) p.is
+    (ap (λ l. done ++ l) (drop-append_seam done p.rest))
 
 -- the world after one more event
-pub one_more : (n : ℕ) (es : List (WorldEvent OpValue)) (e : WorldEvent OpValue) → after n (es ++ e ∷ []) ≡ happens n (after n es) e
+pub one_more : (n : ℕ) (es : List (WorldEvent OpValue)) (e : WorldEvent OpValue) → after n (es ++ e ∷ []) ≡
+    happens n (after n es) e
 one_more n es e = run-append n es (e ∷ []) (start n)
 
 -- one replica catches up
-one_caught_up : (n : ℕ) → IsSize n → (es : List (WorldEvent OpValue)) (e : WorldEvent OpValue) (i : ℕ) (old new : Option (State OpValue))
-    → (after n es).replicas i ≡ old → (after n (es ++ e ∷ [])).replicas i ≡ new → caught_up (executed old) new ≡ executed new
+one_caught_up : (n : ℕ) → IsSize n → (es : List (WorldEvent OpValue)) (e : WorldEvent OpValue) (i : ℕ)
+    (old new : Option (State OpValue))
+    → (after n es).replicas i ≡ old → (after n (es ++ e ∷ [])).replicas i ≡ new → caught_up (executed old) new ≡
+    executed new
 one_caught_up n size es e i old None was is = refl
 one_caught_up n size es e i None (Some s) was is = refl
-one_caught_up n size es e i (Some r) (Some s) was is = go_on (take r.commit_number r.log) (take s.commit_number s.log) (steps_keep n size es e i r s was is)
+one_caught_up n size es e i (Some r) (Some s) was is = go_on (take r.commit_number r.log) (take s.commit_number s.log)
+    (steps_keep n size es e i r s was is)
 
 -- An event leads from what is committed to what is committed.
-pub kept_on : (n : ℕ) → IsSize n → (es : List (WorldEvent OpValue)) (e : WorldEvent OpValue) → all_caught_up (executions (after n es)) (happens n (after n es) e) ≡ executions (happens n (after n es) e)
+pub kept_on : (n : ℕ) → IsSize n → (es : List (WorldEvent OpValue)) (e : WorldEvent OpValue) →
+    all_caught_up (executions (after n es)) (happens n (after n es) e) ≡ executions (happens n (after n es) e)
 kept_on n size es e = λ t. λ i. each i t
   where
-    each : (i : ℕ) → all_caught_up (executions (after n es)) (happens n (after n es) e) i ≡ executions (happens n (after n es) e) i
-    each i = subst (λ (w : World OpValue). all_caught_up (executions (after n es)) w i ≡ executions w i) (one_more n es e)
+    each : (i : ℕ) → all_caught_up (executions (after n es)) (happens n (after n es) e) i ≡
+        executions (happens n (after n es) e) i
+    each i = subst (λ (w : World OpValue). all_caught_up (executions (after n es)) w i ≡ executions w i)
+        (one_more n es e)
         (one_caught_up n size es e i ((after n es).replicas i) ((after n (es ++ e ∷ [])).replicas i) refl refl)
 
 -- Nothing is committed at the start.

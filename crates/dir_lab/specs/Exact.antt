@@ -23,8 +23,10 @@ IsAmong e (f ∷ fs) = (e ≡ f) ⊎ IsAmong e fs
 abbrev pub is_asked_for : Directory → SearchRequestValue → List RdnModel → NamedEntry → Bool
 is_asked_for d q base e = is_in_scope (rdns d.suffix) q.scope (rdns base) (rdns e.name) && is_match d.schema q.filter e
 
--- Exactly the entries of a directory that a search asks for, each once, in order of number, with just the selected attributes.
-pub record AreExactly (d : Directory) (q : SearchRequestValue) (base : List RdnModel) (shown : List SearchResultEntryValue) : Type 0 where
+-- Exactly the entries of a directory that a search asks for, each once, in order of number, with just the selected
+-- attributes.
+pub record AreExactly (d : Directory) (q : SearchRequestValue) (base : List RdnModel)
+    (shown : List SearchResultEntryValue) : Type 0 where
   pub entries : List NamedEntry
   pub are_shown : shown ≡ map (selected d.schema q.attributes q.types_only) entries
   pub rising : NumbersAreRising entries
@@ -37,8 +39,10 @@ is_of_root_dse q base = is_empty base && is_base q.scope
 
 -- An answer with success to a search of entries: at a base that is a name, exactly the entries that it asks for.
 pub record IsExact (d : Directory) (q : SearchRequestValue) (a : Answer) : Type 0 where
-  pub exact : (base : List RdnModel) → a.code ≡ 0 → name_of_text d.schema q.base ≡ Some base → is_of_root_dse q base ≡ false → AreExactly d q base a.entries
+  pub exact : (base : List RdnModel) → a.code ≡ 0 → name_of_text d.schema q.base ≡ Some base → is_of_root_dse q base ≡
+      false → AreExactly d q base a.entries
 
 -- So is each answer over the directory of some updates.
 abbrev pub SuccessIsExact : Type 0
-SuccessIsExact = (s : SchemaModel) (root : List RdnModel) (ops : List OpValue) (q : SearchRequestValue) → IsExact (directory_of s root ops) q (answer (directory_of s root ops) q)
+SuccessIsExact = (s : SchemaModel) (root : List RdnModel) (ops : List OpValue) (q : SearchRequestValue) →
+    IsExact (directory_of s root ops) q (answer (directory_of s root ops) q)

@@ -27,7 +27,8 @@ abbrev pub happenings : List LabEvent → List (WorldEvent OpValue)
 happenings [] = []
 happenings (e ∷ es) = happening e ++ happenings es
 
--- The records that a replica has executed: as many of its log as its commit-number says (VRR 4.1); none, where it is down.
+-- The records that a replica has executed: as many of its log as its commit-number says (VRR 4.1); none, where it is
+-- down.
 abbrev pub executed : Option (State OpValue) → List (LogEntry OpValue)
 executed None = []
 executed (Some r) = take r.commit_number r.log
@@ -36,16 +37,20 @@ executed (Some r) = take r.commit_number r.log
 abbrev pub executions : World OpValue → ℕ → List (LogEntry OpValue)
 executions w i = executed (w.replicas i)
 
--- What a search shows at a replica that has executed these records: unavailable, where it is down or recovering; not yet, where it has committed
--- less than the number that was named; else the answer over the directory of the records, at the replica's commit-number.
-abbrev pub found : SchemaModel → List RdnModel → List (LogEntry OpValue) → ℕ → SearchRequestValue → Option (State OpValue) → Shown
+-- What a search shows at a replica that has executed these records: unavailable, where it is down or recovering; not
+-- yet, where it has committed
+-- less than the number that was named; else the answer over the directory of the records, at the replica's
+-- commit-number.
+abbrev pub found : SchemaModel → List RdnModel → List (LogEntry OpValue) → ℕ → SearchRequestValue →
+    Option (State OpValue) → Shown
 found s root records named q None = Unavailable
 found s root records named q (Some r) =
     cond (is_recovering r.status) Unavailable
     (cond (nat_lt r.commit_number named) (NotYet r.commit_number)
     (Answered r.commit_number (answer (directory_of s root (ops_of records)) q)))
 
--- A reply as it is shown: its code is that of the reply to the record at its place, among those that its replica has executed.
+-- A reply as it is shown: its code is that of the reply to the record at its place, among those that its replica has
+-- executed.
 abbrev pub told : SchemaModel → List RdnModel → (ℕ → List (LogEntry OpValue)) → ReplyBy → Shown
 told s root records t = Replied t (code_at (replies_of s root (ops_of (records t.replica))) t.reply.op_number)
 
@@ -53,17 +58,21 @@ told s root records t = Replied t (code_at (replies_of s root (ops_of (records t
 abbrev pub given_since : World OpValue → World OpValue → List ReplyBy
 given_since old new = drop (length old.replies) (reverse new.replies)
 
--- What is shown at an event that leads from one world to another: the replies that were given, the answer, the state that is asked for.
-abbrev pub shown_at : SchemaModel → List RdnModel → ℕ → (ℕ → List (LogEntry OpValue)) → World OpValue → World OpValue → LabEvent → List Shown
+-- What is shown at an event that leads from one world to another: the replies that were given, the answer, the state
+-- that is asked for.
+abbrev pub shown_at : SchemaModel → List RdnModel → ℕ → (ℕ → List (LogEntry OpValue)) → World OpValue →
+    World OpValue → LabEvent → List Shown
 shown_at s root n records old new (Happens e) = map (told s root records) (given_since old new)
-shown_at s root n records old new (Search i named q) = cond (nat_lt i n) (found s root (records i) named (search_view q) (new.replicas i) ∷ []) []
+shown_at s root n records old new (Search i named q) = cond (nat_lt i n) (found s root (records i) named
+    (search_view q) (new.replicas i) ∷ []) []
 shown_at s root n records old new (Question i) = cond (nat_lt i n) (standing i (new.replicas i) ∷ []) []
 
 -- What is shown at all of these, from this world on.
 abbrev pub shown_from : SchemaModel → List RdnModel → ℕ → List LabEvent → World OpValue → List Shown
 shown_from s root n [] w = []
 shown_from s root n (e ∷ es) w =
-    shown_at s root n (executions (run n (happening e) w)) w (run n (happening e) w) e ++ shown_from s root n es (run n (happening e) w)
+    shown_at s root n (executions (run n (happening e) w)) w (run n (happening e) w) e ++ shown_from s root n es
+    (run n (happening e) w)
 
 -- What a schedule shows with n replicas, from the first world on.
 abbrev pub shown_by : SchemaModel → List RdnModel → ℕ → List LabEvent → List Shown

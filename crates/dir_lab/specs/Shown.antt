@@ -34,6 +34,7 @@ abbrev pub standing : ℕ → Option (State OpValue) → Shown
 standing i None = Down i
 standing i (Some r) = Standing i r.view_number r.status (length r.log) r.commit_number
 
--- the code of the reply to the record of this number, 1 for the first; other (80), where there is none: no lab of 2f + 1 replicas shows it
+-- the code of the reply to the record of this number, 1 for the first; other (80), where there is none: no lab of 2f +
+-- 1 replicas shows it
 abbrev pub code_at : List ReplyModel → ℕ → ℕ
 code_at replies op_number = option_map_or (λ reply. reply.code) (slice_get replies (op_number - 1)) 80

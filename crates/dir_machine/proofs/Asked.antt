@@ -13,13 +13,15 @@ on_ok (Ok x) f h = f h
 on_ok (Err e) f h = tt
 
 -- so many were made events
-pub record AskedSoFar (before : List MachineReply) (i : ℕ) (all left : List Given) (es : List (Event OpValue)) : Type 0 where
+pub record AskedSoFar (before : List MachineReply) (i : ℕ) (all left : List Given) (es : List (Event OpValue)) :
+    Type 0 where
   pub gone : List Given
   pub split : gone ++ left ≡ all
   pub asked : AreAsked before i gone es
 
 module _ (before : List MachineReply) (i : ℕ) where
-  asked_both : (gs : List Given) (g : Given) (es : List (Event OpValue)) (e : Event OpValue) → AreAsked before i gs es → IsAsked before i g e → AreAsked before i (gs ++ g ∷ []) (es ++ e ∷ [])
+  asked_both : (gs : List Given) (g : Given) (es : List (Event OpValue)) (e : Event OpValue) →
+      AreAsked before i gs es → IsAsked before i g e → AreAsked before i (gs ++ g ∷ []) (es ++ e ∷ [])
   asked_both [] g [] e h one = (one, tt)
   asked_both (f ∷ gs) g (d ∷ es) e h one = (h.0, asked_both gs g es e h.1 one)
   asked_both [] g (d ∷ es) e h one = absurd h
@@ -29,7 +31,8 @@ module _ (before : List MachineReply) (i : ℕ) where
   none_asked all = record { gone = []; split = refl; asked = tt }
 
   -- one more
-  pub one_asked : (all left : List Given) (g : Given) (es : List (Event OpValue)) (e : Event OpValue) → AskedSoFar before i all (g ∷ left) es → IsAsked before i g e → AskedSoFar before i all left (es ++ e ∷ [])
+  pub one_asked : (all left : List Given) (g : Given) (es : List (Event OpValue)) (e : Event OpValue) →
+      AskedSoFar before i all (g ∷ left) es → IsAsked before i g e → AskedSoFar before i all left (es ++ e ∷ [])
   one_asked all left g es e h one = record {
     gone = h.gone ++ g ∷ [];
     split = append_assoc h.gone (g ∷ []) left ∙ h.split;
@@ -37,13 +40,17 @@ module _ (before : List MachineReply) (i : ℕ) where
   }
 
   -- all
-  pub all_asked : (all : List Given) (es : List (Event OpValue)) → AskedSoFar before i all [] es → AreAsked before i all es
+  pub all_asked : (all : List Given) (es : List (Event OpValue)) → AskedSoFar before i all [] es →
+      AreAsked before i all es
   all_asked all es h = subst (λ (l : List Given). AreAsked before i l es) (sym (append-nil h.gone) ∙ h.split) h.asked
 
-  missing_behind : (gone : List Given) (g : Given) (left : List Given) → IsMissing before i g → IsOneMissing before i (gone ++ g ∷ left)
+  missing_behind : (gone : List Given) (g : Given) (left : List Given) → IsMissing before i g →
+      IsOneMissing before i (gone ++ g ∷ left)
   missing_behind [] g left h = inl h
   missing_behind (f ∷ gone) g left h = inr (missing_behind gone g left h)
 
   -- one is missing
-  pub one_is_missing : (all left : List Given) (g : Given) (es : List (Event OpValue)) → AskedSoFar before i all (g ∷ left) es → IsMissing before i g → IsOneMissing before i all
-  one_is_missing all left g es h one = subst (λ (l : List Given). IsOneMissing before i l) h.split (missing_behind h.gone g left one)
+  pub one_is_missing : (all left : List Given) (g : Given) (es : List (Event OpValue)) →
+      AskedSoFar before i all (g ∷ left) es → IsMissing before i g → IsOneMissing before i all
+  one_is_missing all left g es h one = subst (λ (l : List Given). IsOneMissing before i l) h.split
+      (missing_behind h.gone g left one)

@@ -55,7 +55,9 @@ ops_length [] = refl
 ops_length (e ∷ es) = ap suc (ops_length es)
 
 -- the reply at a place stays as records join
-reply_stays : (s : SchemaModel) (root : List RdnModel) (xs ys : List (LogEntry OpValue)) (k : ℕ) (x : ReplyModel) → IsPrefix xs ys → slice_get (replies_of s root (ops_of xs)) k ≡ Some x → slice_get (replies_of s root (ops_of ys)) k ≡ Some x
+reply_stays : (s : SchemaModel) (root : List RdnModel) (xs ys : List (LogEntry OpValue)) (k : ℕ) (x : ReplyModel) →
+    IsPrefix xs ys → slice_get (replies_of s root (ops_of xs)) k ≡ Some x → slice_get (replies_of s root (ops_of ys))
+    k ≡ Some x
 reply_stays s root xs ys k x p h =
     ap (λ l. slice_get l k)
     (ap (λ (l : List (LogEntry OpValue)). replies_of s root (ops_of l)) (sym p.is)
@@ -83,14 +85,25 @@ record IsDoneBy (n : MemoryNode) (client : Client) (number place : ℕ) (r : Rep
   pub reply_is : slice_get (replies_at n.executed) (place - 1) ≡ Some r
 
 -- a request is done only so
-done_by : (n : MemoryNode) (client : Client) (number place : ℕ) (r : ReplyModel) → outcome_of n client number ≡ done place r → IsDoneBy n client number place r
+done_by : (n : MemoryNode) (client : Client) (number place : ℕ) (r : ReplyModel) → outcome_of n client number ≡
+    done place r → IsDoneBy n client number place r
 done_by n client number place r = go (latest client n.replica.log) refl
   where
-    at : (l : Latest) → latest client n.replica.log ≡ Some l → l.request_number ≡ number → (o : Option ReplyModel) → slice_get (replies_at n.executed) (l.op_number - 1) ≡ o → outcome_at n l.op_number o ≡ done place r → IsDoneBy n client number place r
+    at : (l : Latest) → latest client n.replica.log ≡ Some l → l.request_number ≡ number → (o : Option ReplyModel) →
+        slice_get (replies_at n.executed) (l.op_number - 1) ≡ o → outcome_at n l.op_number o ≡ done place r →
+        IsDoneBy n client number place r
     at l e same (Some x) f h =
         let here : l.op_number ≡ place = cc in
         let this : x ≡ r = cc in
-        record { last = l; found = e; number_is = same; place_is = here; reply_is = ap (λ (k : ℕ). slice_get (replies_at n.executed) (k - 1)) (sym here) ∙ f ∙ ap (λ (y : ReplyModel). Some y) this }
+        record {
+          last = l;
+          found = e;
+          number_is = same;
+          place_is = here;
+          reply_is =
+              ap (λ (k : ℕ). slice_get (replies_at n.executed) (k - 1)) (sym here) ∙ f ∙ ap (λ (y : ReplyModel). Some y)
+              this;
+        }
     at l e same None f h = absurd (neither (not n.is_halted && leads n.count n.index n.replica n.replica.view_number) h)
       where
         neither : (b : Bool) → cond b pending lost ≡ done place r → ⊥
@@ -98,12 +111,15 @@ done_by n client number place r = go (latest client n.replica.log) refl
         neither false g = lost_not_done place r g
 
     by : (l : Latest) → latest client n.replica.log ≡ Some l → (a b : Bool) → (l.request_number == number) ≡ b
-        → cond a stale (cond b (outcome_at n l.op_number (slice_get (replies_at n.executed) (l.op_number - 1))) lost) ≡ done place r → IsDoneBy n client number place r
+        → cond a stale (cond b (outcome_at n l.op_number (slice_get (replies_at n.executed) (l.op_number - 1)))
+        lost) ≡ done place r → IsDoneBy n client number place r
     by l e true b same h = absurd (stale_not_done place r h)
-    by l e false true same h = at l e (eqb-true l.request_number number same) (slice_get (replies_at n.executed) (l.op_number - 1)) refl h
+    by l e false true same h = at l e (eqb-true l.request_number number same) (slice_get (replies_at n.executed)
+        (l.op_number - 1)) refl h
     by l e false false same h = absurd (lost_not_done place r h)
 
-    go : (o : Option Latest) → latest client n.replica.log ≡ o → outcome_by n number o ≡ done place r → IsDoneBy n client number place r
+    go : (o : Option Latest) → latest client n.replica.log ≡ o → outcome_by n number o ≡ done place r →
+        IsDoneBy n client number place r
     go None e h = absurd (lost_not_done place r h)
     go (Some l) e h = by l e (nat_lt number l.request_number) (l.request_number == number) refl h
 
@@ -116,7 +132,8 @@ above a b low apart = go (nat_lt b a) refl
     go false e = absurd (true≢false (sym (eq-eqb b a (omega (arith, ltb-false a b low, ltb-false b a e))) ∙ apart))
 
 -- What a node says of a request is by its client table.
-by_table : (n : MemoryNode) → n.is_halted ≡ false → (client : Client) (number : ℕ) → IsByTable n.count n.index n.replica client number (outcome_of n client number)
+by_table : (n : MemoryNode) → n.is_halted ≡ false → (client : Client) (number : ℕ) → IsByTable n.count n.index
+    n.replica client number (outcome_of n client number)
 by_table n runs client number = go (latest client n.replica.log) refl
   where
     Says : OutcomeValue → Type 0
@@ -125,18 +142,23 @@ by_table n runs client number = go (latest client n.replica.log) refl
     leading : Bool
     leading = leads n.count n.index n.replica n.replica.view_number
 
-    at : (l : Latest) → latest client n.replica.log ≡ Some l → l.request_number ≡ number → (o : Option ReplyModel) → Says (outcome_at n l.op_number o)
+    at : (l : Latest) → latest client n.replica.log ≡ Some l → l.request_number ≡ number → (o : Option ReplyModel) →
+        Says (outcome_at n l.op_number o)
     at l e same (Some x) = (l, e, same, refl)
-    at l e same None = subst (λ b. Says (cond b pending lost)) (sym (ap (λ b. not b && leading) runs)) (lead leading refl)
+    at l e same None = subst (λ b. Says (cond b pending lost)) (sym (ap (λ b. not b && leading) runs))
+        (lead leading refl)
       where
         lead : (b : Bool) → leading ≡ b → Says (cond b pending lost)
         lead true f = (l, e, same, f)
         lead false f = inr (l, e, inr (same, f))
 
-    by : (l : Latest) → latest client n.replica.log ≡ Some l → (a b : Bool) → nat_lt number l.request_number ≡ a → (l.request_number == number) ≡ b
-        → Says (cond a stale (cond b (outcome_at n l.op_number (slice_get (replies_at n.executed) (l.op_number - 1))) lost))
+    by : (l : Latest) → latest client n.replica.log ≡ Some l → (a b : Bool) → nat_lt number l.request_number ≡ a →
+        (l.request_number == number) ≡ b
+        → Says (cond a stale (cond b (outcome_at n l.op_number (slice_get (replies_at n.executed) (l.op_number - 1)))
+        lost))
     by l e true b later same = (l, e, ltb-true number l.request_number later)
-    by l e false true later same = at l e (eqb-true l.request_number number same) (slice_get (replies_at n.executed) (l.op_number - 1))
+    by l e false true later same = at l e (eqb-true l.request_number number same) (slice_get (replies_at n.executed)
+        (l.op_number - 1))
     by l e false false later same = inr (l, e, inl (above number l.request_number later same))
 
     go : (o : Option Latest) → latest client n.replica.log ≡ o → Says (outcome_by n number o)
@@ -145,56 +167,86 @@ by_table n runs client number = go (latest client n.replica.log) refl
 
 module _ (m : Machine) (w : World OpValue) (i : ℕ) where
   -- what a node says of a request, as its replica in the world
-  by_replica : (n : MemoryNode) → IsUp m w i n → (client : Client) (number : ℕ) (v : OutcomeValue) → v ≡ outcome_of n client number → IsByReplica m.count i w client number v
+  by_replica : (n : MemoryNode) → IsUp m w i n → (client : Client) (number : ℕ) (v : OutcomeValue) →
+      v ≡ outcome_of n client number → IsByReplica m.count i w client number v
   by_replica n u client number v is = record {
     replica = n.replica;
     there = u.replica;
     by =
         subst (λ (k : ℕ). IsByTable k i n.replica client number v) u.count
-        (subst (λ (k : ℕ). IsByTable n.count k n.replica client number v) u.index (subst (λ (x : OutcomeValue). IsByTable n.count n.index n.replica client number x) (sym is) (by_table n u.running client number)));
+        (subst (λ (k : ℕ). IsByTable n.count k n.replica client number v) u.index
+        (subst (λ (x : OutcomeValue). IsByTable n.count n.index n.replica client number x) (sym is)
+        (by_table n u.running client number)));
   }
 
   -- how far a node is, as its replica in the world
-  far : (n : MemoryNode) → IsUp m w i n → reply.Standing i n.replica.view_number (standing_of n) (length n.replica.log) n.replica.commit_number
-      ≡ reply.Standing i n.replica.view_number (standing_by i (primary m.count n.replica.view_number) n.replica.status) (length n.replica.log) n.replica.commit_number
-  far n u = ap (λ (st : Standing). reply.Standing i n.replica.view_number st (length n.replica.log) n.replica.commit_number)
-      (ap (λ b. cond b Recovering (standing_by n.index (primary n.count n.replica.view_number) n.replica.status)) u.running
+  far : (n : MemoryNode) → IsUp m w i n → reply.Standing i n.replica.view_number (standing_of n)
+      (length n.replica.log) n.replica.commit_number
+      ≡ reply.Standing i n.replica.view_number (standing_by i (primary m.count n.replica.view_number)
+      n.replica.status) (length n.replica.log) n.replica.commit_number
+  far n u = ap (λ (st : Standing). reply.Standing i n.replica.view_number st (length n.replica.log)
+      n.replica.commit_number)
+      (ap (λ b. cond b Recovering (standing_by n.index (primary n.count n.replica.view_number) n.replica.status))
+      u.running
       ∙ ap (λ (k : ℕ). standing_by k (primary n.count n.replica.view_number) n.replica.status) u.index
       ∙ ap (λ (k : ℕ). standing_by i (primary k n.replica.view_number) n.replica.status) u.count)
 
   -- What is shown of how far a process is.
-  pub told_on : (shown : List MachineReply) (p : Process) (x : MachineReply) → StandsFor m w i (stage shown i) p → IsToldOf i p x
+  pub told_on : (shown : List MachineReply) (p : Process) (x : MachineReply) → StandsFor m w i (stage shown i) p →
+      IsToldOf i p x
       → MayHappen (arc_value m.schema) m.suffix m.count m.journaled shown (event.State i) x [] w × IsQuiet x
   told_on shown (Up n f) x stands is =
-      subst (λ (y : MachineReply). MayHappen (arc_value m.schema) m.suffix m.count m.journaled shown (event.State i) y [] w × IsQuiet y) (sym is)
-      ((refl, record { replica = n.replica; there = stands.1.replica; shown = far n stands.1 }), record { stages = λ j s. refl; silent = λ part at y h. absurd (cc) })
-  told_on shown (Down image) reply.Nothing stands is = ((refl, inr (down_not_up stands.0)), record { stages = λ j s. refl; silent = λ part at y h. absurd (cc) })
-  told_on shown (Unborn image) reply.Nothing stands is = ((refl, inr (unborn_not_up stands.0)), record { stages = λ j s. refl; silent = λ part at y h. absurd (cc) })
+      subst (λ (y : MachineReply). MayHappen (arc_value m.schema) m.suffix m.count m.journaled shown (event.State i) y
+      [] w × IsQuiet y) (sym is) (
+        (refl, record { replica = n.replica; there = stands.1.replica; shown = far n stands.1 }),
+        record {
+          stages =
+              λ j s. refl;
+          silent = λ part at y h. absurd (cc);
+        },
+      )
+  told_on shown (Down image) reply.Nothing stands is =
+      ((refl, inr (down_not_up stands.0)), record { stages = λ j s. refl; silent = λ part at y h. absurd (cc) })
+  told_on shown (Unborn image) reply.Nothing stands is =
+      ((refl, inr (unborn_not_up stands.0)), record { stages = λ j s. refl; silent = λ part at y h. absurd (cc) })
   told_on shown _ _ stands is = absurd is
 
-module _ (m : Machine) (size : IsSize m.count) (w : World OpValue) (i : ℕ) (reached : IsReached m.count w) (law : LatestIsOfClient OpValue) where
+module _ (m : Machine) (size : IsSize m.count) (w : World OpValue) (i : ℕ) (reached : IsReached m.count w)
+    (law : LatestIsOfClient OpValue) where
   -- what is committed
   abbrev all : List (LogEntry OpValue)
   all = committed m.count w.messages
 
   -- a request that a node calls done is in what is committed
-  done_in : (n : MemoryNode) → IsUp m w i n → (client : Client) (number place : ℕ) (r : ReplyModel) → outcome_of n client number ≡ done place r
+  done_in : (n : MemoryNode) → IsUp m w i n → (client : Client) (number place : ℕ) (r : ReplyModel) →
+      outcome_of n client number ≡ done place r
       → IsMadeIn (arc_value m.schema) m.suffix all client number place r
   done_in n u client number place r is = record {
     entry = named.entry;
-    at = record { front = named.at.front; within = prefix_trans (prefix_shorter named.at.within in_log short) in_all; op_number = named.at.op_number ∙ by.place_is };
+    at = record {
+      front = named.at.front;
+      within = prefix_trans (prefix_shorter named.at.within in_log short) in_all;
+      op_number = named.at.op_number ∙ by.place_is;
+    };
     client_is = named.client;
     number_is = named.request_number ∙ by.number_is;
     reply_is = reply_stays (arc_value m.schema) m.suffix n.executed.records all (place - 1) r in_all
-        (ap (λ (s : SchemaModel). slice_get (replies_of s m.suffix (ops_of n.executed.records)) (place - 1)) (sym u.schema)
-        ∙ ap (λ (root : List RdnModel). slice_get (replies_of n.executed.schema root (ops_of n.executed.records)) (place - 1)) (sym u.suffix)
+        (ap (λ (s : SchemaModel). slice_get (replies_of s m.suffix (ops_of n.executed.records)) (place - 1))
+        (sym u.schema)
+        ∙ ap (λ (root : List RdnModel). slice_get (replies_of n.executed.schema root (ops_of n.executed.records))
+        (place - 1)) (sym u.suffix)
         ∙ by.reply_is);
   }
     where
       by : IsDoneBy n client number place r
       by = done_by n client number place r is
 
-      named : IsNamedIn (record { client = client; request_number = by.last.request_number; op_number = by.last.op_number }) n.replica.log
+      named : IsNamedIn (record {
+        client = client;
+        request_number = by.last.request_number;
+        op_number =
+            by.last.op_number;
+      }) n.replica.log
       named = law client n.replica.log by.last by.found
 
       in_log : IsPrefix n.executed.records n.replica.log
@@ -205,23 +257,42 @@ module _ (m : Machine) (size : IsSize m.count) (w : World OpValue) (i : ℕ) (re
 
       within : place - 1 < length n.executed.records
       within =
-          let lt : place - 1 < length (replies_at n.executed) = slice_get_within (replies_at n.executed) (place - 1) r by.reply_is in
-          omega (arith, lt, replies_length (empty_directory n.executed.schema n.executed.suffix) 0 (ops_of n.executed.records), ops_length n.executed.records)
+          let lt : place - 1 < length (replies_at n.executed) = slice_get_within (replies_at n.executed) (place - 1) r
+          by.reply_is in
+          omega (
+            arith,
+            lt,
+            replies_length (empty_directory n.executed.schema n.executed.suffix) 0 (ops_of
+                n.executed.records),
+            ops_length n.executed.records,
+          )
 
       short : length (named.at.front ++ named.entry ∷ []) ≤ length n.executed.records
       short = omega (arith, within, length-append named.at.front (named.entry ∷ []), named.at.op_number, by.place_is)
 
-  done_or : (n : MemoryNode) → IsUp m w i n → (client : Client) (number : ℕ) (v : OutcomeValue) → outcome_of n client number ≡ v → IsDoneIn (arc_value m.schema) m.suffix all client number v
+  done_or : (n : MemoryNode) → IsUp m w i n → (client : Client) (number : ℕ) (v : OutcomeValue) →
+      outcome_of n client number ≡ v → IsDoneIn (arc_value m.schema) m.suffix all client number v
   done_or n u client number (done place r) is = done_in n u client number place r is
   done_or n u client number pending is = tt
   done_or n u client number stale is = tt
   done_or n u client number lost is = tt
 
   -- What is shown of a client's request at a process.
-  pub answered_on : (shown : List MachineReply) (client : Client) (number : ℕ) (p : Process) (x : MachineReply) → StandsFor m w i (stage shown i) p → IsAnswered i client number p x
+  pub answered_on : (shown : List MachineReply) (client : Client) (number : ℕ) (p : Process) (x : MachineReply) →
+      StandsFor m w i (stage shown i) p → IsAnswered i client number p x
       → MayHappen (arc_value m.schema) m.suffix m.count m.journaled shown (event.Ask i client number) x [] w × IsQuiet x
-  answered_on shown client number (Up n f) (reply.Outcome j o) stands is =
-      ((is.0, refl, by_replica m w i n stands.1 client number (became_view o) is.1, done_or n stands.1 client number (became_view o) (sym is.1)), record { stages = λ j s. refl; silent = λ part at y h. absurd (cc) })
-  answered_on shown client number (Down image) reply.Nothing stands is = ((refl, inr (down_not_up stands.0)), record { stages = λ j s. refl; silent = λ part at y h. absurd (cc) })
-  answered_on shown client number (Unborn image) reply.Nothing stands is = ((refl, inr (unborn_not_up stands.0)), record { stages = λ j s. refl; silent = λ part at y h. absurd (cc) })
+  answered_on shown client number (Up n f) (reply.Outcome j o) stands is = (
+    (
+      is.0,
+      refl,
+      by_replica m w i n stands.1 client number (became_view
+          o) is.1,
+      done_or n stands.1 client number (became_view o) (sym is.1),
+    ),
+    record { stages = λ j s. refl; silent = λ part at y h. absurd (cc) },
+  )
+  answered_on shown client number (Down image) reply.Nothing stands is =
+      ((refl, inr (down_not_up stands.0)), record { stages = λ j s. refl; silent = λ part at y h. absurd (cc) })
+  answered_on shown client number (Unborn image) reply.Nothing stands is =
+      ((refl, inr (unborn_not_up stands.0)), record { stages = λ j s. refl; silent = λ part at y h. absurd (cc) })
   answered_on shown client number _ _ stands is = absurd is

@@ -29,7 +29,8 @@ not_normal status.ViewChange e = refl
 not_normal status.Recovering e = refl
 
 -- A replica that recovers after some steps did before them.
-recovers_since : LastIsKept OpValue → (n i : ℕ) (r : State OpValue) (es : List (Event OpValue)) (s : State OpValue) → MakesSome n i r es s → is_recovering s.status ≡ true → is_recovering r.status ≡ true
+recovers_since : LastIsKept OpValue → (n i : ℕ) (r : State OpValue) (es : List (Event OpValue)) (s : State OpValue) →
+    MakesSome n i r es s → is_recovering s.status ≡ true → is_recovering r.status ≡ true
 recovers_since last n i r [] s same e = ap (λ (x : State OpValue). is_recovering x.status) (sym same) ∙ e
 recovers_since last n i r (x ∷ es) s (inl same) e = ap (λ (y : State OpValue). is_recovering y.status) (sym same) ∙ e
 recovers_since last n i r (x ∷ es) s (inr (t, how, rest)) e = go how (recovers_since last n i t es s rest e)
@@ -37,11 +38,13 @@ recovers_since last n i r (x ∷ es) s (inr (t, how, rest)) e = go how (recovers
     go : (t ≡ r) ⊎ (t ≡ (step n i r x).state) → is_recovering t.status ≡ true → is_recovering r.status ≡ true
     go (inl same) h = ap (λ (y : State OpValue). is_recovering y.status) (sym same) ∙ h
     go (inr is) h =
-        let now : is_recovering (step n i r x).state.status ≡ true = ap (λ (y : State OpValue). is_recovering y.status) (sym is) ∙ h in
+        let now : is_recovering (step n i r x).state.status ≡ true =
+        ap (λ (y : State OpValue). is_recovering y.status) (sym is) ∙ h in
         sym (last n i r x (not_normal (step n i r x).state.status now)).1 ∙ now
 
 -- One that doesn't, doesn't after them.
-pub stays_active : LastIsKept OpValue → (n i : ℕ) (r : State OpValue) (es : List (Event OpValue)) (s : State OpValue) → MakesSome n i r es s → is_recovering r.status ≡ false → is_recovering s.status ≡ false
+pub stays_active : LastIsKept OpValue → (n i : ℕ) (r : State OpValue) (es : List (Event OpValue))
+    (s : State OpValue) → MakesSome n i r es s → is_recovering r.status ≡ false → is_recovering s.status ≡ false
 stays_active last n i r es s some active = go (is_recovering s.status) refl
   where
     go : (b : Bool) → is_recovering s.status ≡ b → is_recovering s.status ≡ false
@@ -49,18 +52,26 @@ stays_active last n i r es s some active = go (is_recovering s.status) refl
     go true e = absurd (true≢false (sym (recovers_since last n i r es s some e) ∙ active))
 
 -- The state after some first of the events that were taken of these is one that some first of these make.
-pub taken_some : (n i k : ℕ) (r : State OpValue) (taken : List (Event OpValue × ℕ)) (es : List (Event OpValue)) → AreSome taken es → MakesSome n i r es (after_events n i r (take k taken))
+pub taken_some : (n i k : ℕ) (r : State OpValue) (taken : List (Event OpValue × ℕ)) (es : List (Event OpValue)) →
+    AreSome taken es → MakesSome n i r es (after_events n i r (take k taken))
 taken_some n i zero r taken [] h = refl
 taken_some n i zero r taken (e ∷ es) h = inl refl
 taken_some n i (suc k) r [] [] h = refl
 taken_some n i (suc k) r [] (e ∷ es) h = inl refl
 taken_some n i (suc k) r (x ∷ xs) [] h = absurd h
 taken_some n i (suc k) r (x ∷ xs) (e ∷ es) (inl h) =
-    inr ((step n i r x.0).state, inr (ap (λ (y : Event OpValue). (step n i r y).state) h.0), taken_some n i k (step n i r x.0).state xs es h.1)
+    inr (
+      (step n i r x.0).state,
+      inr (ap (λ (y : Event OpValue). (step n i r y).state) h.0),
+      taken_some n i k (step n
+          i r x.0).state xs es h.1,
+    )
 taken_some n i (suc k) r (x ∷ xs) (e ∷ es) (inr h) = inr (r, inl refl, taken_some n i (suc k) r (x ∷ xs) es h)
 
 -- What is told of a replica that crashed is what the world keeps of it.
-kept_told : (v : World OpValue) (i : ℕ) (s : State OpValue) (t u : Told) (h : Kept OpValue) → u ≡ record t { kept = h } → IsKeptOf h s → 0 < t.restarts → v.stored i ≡ s.view_number → v.kept i ≡ kept_of s → is_recovering s.status ≡ false
+kept_told : (v : World OpValue) (i : ℕ) (s : State OpValue) (t u : Told) (h : Kept OpValue) →
+    u ≡ record t { kept = h } → IsKeptOf h s → 0 < t.restarts → v.stored i ≡ s.view_number → v.kept i ≡ kept_of s →
+    is_recovering s.status ≡ false
     → IsKeptTold v i u
 kept_told v i s t u h is of started stored kept active = subst (λ (x : Told). IsKeptTold v i x) (sym is) (record {
   whole = ap (λ b. b && nat_lt 0 t.restarts) (of.whole ∙ ap not active) ∙ lt-ltb 0 t.restarts started;
@@ -75,23 +86,30 @@ kept_told v i s t u h is of started stored kept active = subst (λ (x : Told). I
 })
 
 -- So it is with all that the journal's strings tell.
-pub log_told : OneIsTold → (v : World OpValue) (i : ℕ) (s : State OpValue) (t : Told) (strings : List (List ℕ)) → IsKeptIn t s strings → 0 < t.restarts → v.stored i ≡ s.view_number → v.kept i ≡ kept_of s → is_recovering s.status ≡ false
+pub log_told : OneIsTold → (v : World OpValue) (i : ℕ) (s : State OpValue) (t : Told) (strings : List (List ℕ)) →
+    IsKeptIn t s strings → 0 < t.restarts → v.stored i ≡ s.view_number → v.kept i ≡ kept_of s →
+    is_recovering s.status ≡ false
     → IsLogOf v i strings
 log_told one v i s t strings told started stored kept active u tells =
-    kept_told v i s t u told.kept (one strings nothing_told u (record t { kept = told.kept }) tells told.tells) told.of started stored kept active
+    kept_told v i s t u told.kept (one strings nothing_told u (record t { kept = told.kept }) tells told.tells)
+    told.of started stored kept active
 
 -- There is a journal left where there was one.
-pub left_some : (x : Option (Journal journals.MemoryModel)) (o : Option (Vec ℕ Global)) → IsJournalLeft (device_in x) o → is_some o ≡ is_some x
+pub left_some : (x : Option (Journal journals.MemoryModel)) (o : Option (Vec ℕ Global)) → IsJournalLeft (device_in x)
+    o → is_some o ≡ is_some x
 left_some None None l = refl
 left_some None (Some octets) l = absurd l
 left_some (Some j) None l = absurd l
 left_some (Some j) (Some octets) l = refl
 
 -- A node that keeps its journal leaves one that tells its replica.
-pub left_tells : (n : MemoryNode) → LogsIt n → (o : Option (Vec ℕ Global)) → IsJournalLeft (device_in n.journal) o → TellsIn (head n) n.replica o
+pub left_tells : (n : MemoryNode) → LogsIt n → (o : Option (Vec ℕ Global)) → IsJournalLeft (device_in n.journal) o →
+    TellsIn (head n) n.replica o
 left_tells n logs = go n.journal logs
   where
-    go : (x : Option (Journal journals.MemoryModel)) → LeavesTold (λ (j : journals.MemoryModel). journals.MayLeave j.base j.events) x (head n) n.replica → (o : Option (Vec ℕ Global)) → IsJournalLeft (device_in x) o → TellsIn (head n) n.replica o
+    go : (x : Option (Journal journals.MemoryModel)) → LeavesTold (λ (j : journals.MemoryModel). journals.MayLeave
+        j.base j.events) x (head n) n.replica → (o : Option (Vec ℕ Global)) → IsJournalLeft (device_in x) o →
+        TellsIn (head n) n.replica o
     go None h None l = tt
     go None h (Some octets) l = absurd l
     go (Some j) h None l = absurd l
@@ -103,11 +121,14 @@ IsLeftWith P None = Unit {0}
 IsLeftWith P (Some octets) = P octets.items
 
 -- What a crash may leave of a journal has what a call says of each moment.
-pub log_now : (old new : Option journals.MemoryModel) (P : List ℕ → Type 0) → LeavesOnlyIn (λ (j : journals.MemoryModel). length j.events) (λ (j : journals.MemoryModel). journals.LeftSince j.base j.events) old new P
+pub log_now : (old new : Option journals.MemoryModel) (P : List ℕ → Type 0) →
+    LeavesOnlyIn (λ (j : journals.MemoryModel). length j.events) (λ (j : journals.MemoryModel). journals.LeftSince
+    j.base j.events) old new P
     → (o : Option (Vec ℕ Global)) → IsJournalLeft new o → IsLeftWith P o
 log_now None None P any None l = tt
 log_now None None P any (Some octets) l = absurd l
 log_now (Some a) (Some b) P any None l = absurd l
-log_now (Some a) (Some b) P any (Some octets) l = any.each octets.items (counts_now b.base b.events (length a.events) octets.items any.later l)
+log_now (Some a) (Some b) P any (Some octets) l = any.each octets.items (counts_now b.base b.events (length a.events)
+    octets.items any.later l)
 log_now None (Some b) P any o l = absurd any
 log_now (Some a) None P any o l = absurd any

@@ -51,40 +51,78 @@ module _ (m : Machine) (size : IsSize m.count) (w : World OpValue) (i : ℕ) (re
   begins n u = prefix_trans u.executed (begins_committed m.count size w i n.replica reached u.replica)
 
   -- A read at a node that is up.
-  found_in : {A : Type 0} (n : MemoryNode) → IsUp m w i n → (named number : ℕ) (read : Directory → A) (found : A) → IsFoundBy n named number read found → IsReadIn (arc_value m.schema) m.suffix all named number read found
+  found_in : {A : Type 0} (n : MemoryNode) → IsUp m w i n → (named number : ℕ) (read : Directory → A) (found : A) →
+      IsFoundBy n named number read found → IsReadIn (arc_value m.schema) m.suffix all named number read found
   found_in n u named number read found by = record {
     enough = by.enough;
     within = no_longer n.executed.records all number (begins n u) by.executed;
     is =
         by.is
         ∙ ap (λ (s : SchemaModel). read (directory_of s n.executed.suffix (ops_of n.executed.records))) u.schema
-        ∙ ap (λ (root : List RdnModel). read (directory_of (arc_value m.schema) root (ops_of n.executed.records))) u.suffix
-        ∙ ap (λ (l : List (LogEntry OpValue)). read (directory_of (arc_value m.schema) m.suffix (ops_of l))) (sym (ap (λ (k : ℕ). take k all) by.executed ∙ first_of n.executed.records all (begins n u)));
+        ∙ ap (λ (root : List RdnModel). read (directory_of (arc_value m.schema) root (ops_of n.executed.records)))
+        u.suffix
+        ∙ ap (λ (l : List (LogEntry OpValue)). read (directory_of (arc_value m.schema) m.suffix (ops_of l)))
+        (sym (ap (λ (k : ℕ). take k all) by.executed ∙ first_of n.executed.records all (begins n u)));
   }
 
-  too_early : (n : MemoryNode) → IsUp m w i n → (named number : ℕ) → IsEarlyAt n named number → IsTooEarly all named number
-  too_early n u named number early = record { fewer = early.fewer; within = no_longer n.executed.records all number (begins n u) early.executed }
+  too_early : (n : MemoryNode) → IsUp m w i n → (named number : ℕ) → IsEarlyAt n named number →
+      IsTooEarly all named number
+  too_early n u named number early = record {
+    fewer = early.fewer;
+    within = no_longer n.executed.records all number
+        (begins n u) early.executed;
+  }
 
   -- What is shown of a search at a process.
-  pub searched_on : (shown : List MachineReply) (named : ℕ) (q : SearchRequest) (p : Process) (x : MachineReply) → StandsFor m w i (stage shown i) p → IsSearched i named (search_view q) p x
+  pub searched_on : (shown : List MachineReply) (named : ℕ) (q : SearchRequest) (p : Process) (x : MachineReply) →
+      StandsFor m w i (stage shown i) p → IsSearched i named (search_view q) p x
       → MayHappen (arc_value m.schema) m.suffix m.count m.journaled shown (event.Search i named q) x [] w × IsQuiet x
-  searched_on shown named q (Up n f) (reply.Found j number a) stands is =
-      ((is.0, refl, found_in n stands.1 named number (λ d. answer d (search_view q)) (answer_view a) is.1), record { stages = λ k s. refl; silent = λ part at y h. absurd (cc) })
-  searched_on shown named q (Up n f) (reply.NotYet j number) stands is =
-      ((is.0, refl, too_early n stands.1 named number is.1), record { stages = λ k s. refl; silent = λ part at y h. absurd (cc) })
-  searched_on shown named q (Up n f) (reply.Refused j e) stands is = ((is.0, is.1, refl), record { stages = λ k s. refl; silent = λ part at y h. absurd (cc) })
-  searched_on shown named q (Down image) reply.Nothing stands is = ((refl, inr (down_not_up stands.0)), record { stages = λ k s. refl; silent = λ part at y h. absurd (cc) })
-  searched_on shown named q (Unborn image) reply.Nothing stands is = ((refl, inr (unborn_not_up stands.0)), record { stages = λ k s. refl; silent = λ part at y h. absurd (cc) })
+  searched_on shown named q (Up n f) (reply.Found j number a) stands is = (
+    (is.0, refl, found_in n stands.1 named number (λ d. answer d (search_view q)) (answer_view a) is.1),
+    record {
+      stages = λ k s. refl;
+      silent = λ part at y h. absurd (cc);
+    },
+  )
+  searched_on shown named q (Up n f) (reply.NotYet j number) stands is = (
+    (is.0, refl, too_early n stands.1 named number is.1),
+    record {
+      stages = λ k s. refl;
+      silent = λ part at y h.
+          absurd (cc);
+    },
+  )
+  searched_on shown named q (Up n f) (reply.Refused j e) stands is =
+      ((is.0, is.1, refl), record { stages = λ k s. refl; silent = λ part at y h. absurd (cc) })
+  searched_on shown named q (Down image) reply.Nothing stands is =
+      ((refl, inr (down_not_up stands.0)), record { stages = λ k s. refl; silent = λ part at y h. absurd (cc) })
+  searched_on shown named q (Unborn image) reply.Nothing stands is =
+      ((refl, inr (unborn_not_up stands.0)), record { stages = λ k s. refl; silent = λ part at y h. absurd (cc) })
   searched_on shown named q _ _ stands is = absurd is
 
   -- What is shown of a compare.
-  pub compared_on : (shown : List MachineReply) (named : ℕ) (q : CompareRequest) (p : Process) (x : MachineReply) → StandsFor m w i (stage shown i) p → IsCompared i named (compare_view q) p x
+  pub compared_on : (shown : List MachineReply) (named : ℕ) (q : CompareRequest) (p : Process) (x : MachineReply) →
+      StandsFor m w i (stage shown i) p → IsCompared i named (compare_view q) p x
       → MayHappen (arc_value m.schema) m.suffix m.count m.journaled shown (event.Compare i named q) x [] w × IsQuiet x
-  compared_on shown named q (Up n f) (reply.Compared j number r) stands is =
-      ((is.0, refl, found_in n stands.1 named number (λ d. compared d (compare_view q)) (reply_view r) is.1), record { stages = λ k s. refl; silent = λ part at y h. absurd (cc) })
-  compared_on shown named q (Up n f) (reply.NotYet j number) stands is =
-      ((is.0, refl, too_early n stands.1 named number is.1), record { stages = λ k s. refl; silent = λ part at y h. absurd (cc) })
-  compared_on shown named q (Up n f) (reply.Refused j e) stands is = ((is.0, is.1, refl), record { stages = λ k s. refl; silent = λ part at y h. absurd (cc) })
-  compared_on shown named q (Down image) reply.Nothing stands is = ((refl, inr (down_not_up stands.0)), record { stages = λ k s. refl; silent = λ part at y h. absurd (cc) })
-  compared_on shown named q (Unborn image) reply.Nothing stands is = ((refl, inr (unborn_not_up stands.0)), record { stages = λ k s. refl; silent = λ part at y h. absurd (cc) })
+  compared_on shown named q (Up n f) (reply.Compared j number r) stands is = (
+    (is.0, refl, found_in n stands.1 named number (λ d. compared d (compare_view q)) (reply_view r) is.1),
+    record {
+      stages = λ k s. refl;
+      silent = λ part at y h. absurd (cc);
+    },
+  )
+  compared_on shown named q (Up n f) (reply.NotYet j number) stands is = (
+    (is.0, refl, too_early n stands.1 named number is.1),
+    record {
+      stages = λ k s. refl;
+      silent = λ part at y h.
+          absurd (cc);
+    },
+  )
+  compared_on shown named q (Up n f) (reply.Refused j e) stands is =
+      ((is.0, is.1, refl), record { stages = λ k s. refl; silent = λ part at y h. absurd (cc) })
+  compared_on shown named q (Down image) reply.Nothing stands is =
+      ((refl, inr (down_not_up stands.0)), record { stages = λ k s. refl; silent = λ part at y h. absurd (cc) })
+  compared_on shown named q (Unborn image) reply.Nothing stands is =
+      ((refl, inr (unborn_not_up stands.0)), record { stages = λ k s. refl; silent = λ part at y h. absurd (cc) })
   compared_on shown named q _ _ stands is = absurd is

@@ -69,13 +69,15 @@ module _ (m : Machine) (w : World OpValue) (i : ℕ) (lt : i < m.count) (shown :
   -- what may happen where replica i's process is to start
   abbrev pub MayStart : MachineReply → List (WorldEvent OpValue) → Type 0
   MayStart reply.Nothing h = (h ≡ []) × (stage shown i ≡ up)
-  MayStart (reply.Started j restarts out) h = (j ≡ i) × (StartsFirst shown i restarts out h ⊎ StartsAgain m.count m.journaled shown i restarts out h w ⊎ GoesOnOver m.count m.journaled shown i out h w)
+  MayStart (reply.Started j restarts out) h = (j ≡ i) × (StartsFirst shown i restarts out h
+      ⊎ StartsAgain m.count m.journaled shown i restarts out h w ⊎ GoesOnOver m.count m.journaled shown i out h w)
   MayStart (reply.Refused j e) h = (j ≡ i) × (h ≡ [])
   MayStart (reply.Stopped j e) h = (j ≡ i) × (h ≡ [])
   MayStart _ h = ⊥
 
   -- the first start
-  first_up : (n : MemoryNode) → IsUnborn m w i → IsBorn m i (first m.count) 1 n → IsPlaced n.device → is_some n.journal ≡ m.journaled → IsUp m w i n
+  first_up : (n : MemoryNode) → IsUnborn m w i → IsBorn m i (first m.count) 1 n → IsPlaced n.device →
+      is_some n.journal ≡ m.journaled → IsUp m w i n
   first_up n u b placed journaled = record {
     index = b.index;
     count = b.count;
@@ -86,7 +88,8 @@ module _ (m : Machine) (w : World OpValue) (i : ℕ) (lt : i < m.count) (shown :
     nonces = λ x h. let le : x ≤ 0 = u.nonces x h in omega (arith, le);
     schema = b.schema;
     suffix = b.suffix;
-    executed = subst (λ (l : List (LogEntry OpValue)). IsPrefix l (take n.replica.commit_number n.replica.log)) (sym b.records) (prefix_nil (take n.replica.commit_number n.replica.log));
+    executed = subst (λ (l : List (LogEntry OpValue)). IsPrefix l (take n.replica.commit_number n.replica.log))
+        (sym b.records) (prefix_nil (take n.replica.commit_number n.replica.log));
     pair = b.pair;
     log = b.log;
     journaled = journaled;
@@ -101,106 +104,141 @@ module _ (m : Machine) (w : World OpValue) (i : ℕ) (lt : i < m.count) (shown :
   goes_active false = refl
 
   -- no message is among none
-  none_of : (j : ℕ) (out : Outputs OpValue) (at : ℕ) (y : Message OpValue) → out.sends.items ≡ [] → message_of j out at ≡ Some y → ⊥
-  none_of j out at y e h = let none : message_by j None ≡ Some y = ap (λ (l : List (Send OpValue)). message_by j (slice_get l at)) (sym e) ∙ h in absurd (cc)
+  none_of : (j : ℕ) (out : Outputs OpValue) (at : ℕ) (y : Message OpValue) → out.sends.items ≡ [] →
+      message_of j out at ≡ Some y → ⊥
+  none_of j out at y e h = let none : message_by j None ≡ Some y = ap (λ (l : List (Send OpValue)). message_by j
+      (slice_get l at)) (sym e) ∙ h in absurd (cc)
 
   -- a later start at which the replica recovers
-  module _ (n : MemoryNode) (out : Outputs OpValue) (restarts view x most : ℕ) (down_is : w.replicas i ≡ None) (stored_is : w.stored i ≡ view) (nonces_are : AreUpTo w i most) (above : most < x)
-      (b : IsBorn m i (recovering m.count view x) x n) (is : restarts ≡ n.restarts) (sends : gives n.replica out ≡ recovers m.count i view x) (alone_is : m.journaled ≡ false) (journaled_is : is_some n.journal ≡ m.journaled) where
-    -- the numbers are one
-    nonce : x ≡ restarts
-    nonce = sym (is ∙ b.restarts_is)
+  module _ (n : MemoryNode) (out : Outputs OpValue) (restarts view x most : ℕ) (down_is : w.replicas i ≡ None)
+      (stored_is : w.stored i ≡ view) (nonces_are : AreUpTo w i most) (above : most < x)
+      (b : IsBorn m i (recovering m.count view x) x n) (is : restarts ≡ n.restarts) (sends : gives n.replica out ≡
+      recovers m.count i view x) (alone_is : m.journaled ≡ false) (journaled_is : is_some n.journal ≡ m.journaled)
+    where
+      -- the numbers are one
+      nonce : x ≡ restarts
+      nonce = sym (is ∙ b.restarts_is)
 
-    -- the world after it
-    to : happens m.count w (Recover i restarts) ≡ recovered_with m.count i restarts w
-    to = recovered_is m.count i restarts w lt down_is (is_new restarts most (w.nonces i) nonces_are (omega (arith, nonce, above)))
+      -- the world after it
+      to : happens m.count w (Recover i restarts) ≡ recovered_with m.count i restarts w
+      to = recovered_is m.count i restarts w lt down_is (is_new restarts most (w.nonces i) nonces_are
+          (omega (arith, nonce, above)))
 
-    -- what it sends
-    sent_is : out.sends.items ≡ to_all m.count i (Recovery restarts)
-    sent_is = ap (λ (o : Outcome OpValue). o.sends) sends ∙ ap (λ (y : ℕ). to_all m.count i (Recovery y)) nonce
+      -- what it sends
+      sent_is : out.sends.items ≡ to_all m.count i (Recovery restarts)
+      sent_is = ap (λ (o : Outcome OpValue). o.sends) sends ∙ ap (λ (y : ℕ). to_all m.count i (Recovery y)) nonce
 
-    -- its state
-    state_is : n.replica ≡ recovering m.count (w.stored i) restarts
-    state_is = b.replica ∙ ap (λ (y : ℕ). recovering m.count y x) (sym stored_is) ∙ ap (λ (y : ℕ). recovering m.count (w.stored i) y) nonce
+      -- its state
+      state_is : n.replica ≡ recovering m.count (w.stored i) restarts
+      state_is = b.replica ∙ ap (λ (y : ℕ). recovering m.count y x) (sym stored_is)
+          ∙ ap (λ (y : ℕ). recovering m.count (w.stored i) y) nonce
 
-    again_later : IsLater w (happens m.count w (Recover i restarts)) i
-    again_later = subst (λ (u : World OpValue). IsLater w u i) (sym to) (record {
-      others = λ j ne. record {
-        replica = put_there i j (Some (recovering m.count (w.stored i) restarts)) w.replicas ne;
-        stored = put_there i j (w.stored i) w.stored ne;
-        kept = refl;
-        nonces = put_there i j (restarts ∷ w.nonces i) w.nonces ne;
-      };
-      sent = (made_later i (record { state = recovering m.count (w.stored i) restarts; sends = to_all m.count i (Recovery restarts); replies = [] }) w).sent;
-    })
+      again_later : IsLater w (happens m.count w (Recover i restarts)) i
+      again_later = subst (λ (u : World OpValue). IsLater w u i) (sym to) (record {
+        others = λ j ne. record {
+          replica = put_there i j (Some (recovering m.count (w.stored i) restarts)) w.replicas ne;
+          stored = put_there i j (w.stored i) w.stored ne;
+          kept = refl;
+          nonces = put_there i j (restarts ∷ w.nonces i) w.nonces ne;
+        };
+        sent = (made_later i (record {
+          state = recovering m.count (w.stored i) restarts;
+          sends = to_all m.count i
+              (Recovery restarts);
+          replies = [];
+        }) w).sent;
+      })
 
-    again_messages : (happens m.count w (Recover i restarts)).messages ≡ posted i out.sends.items w.messages
-    again_messages = ap (λ (u : World OpValue). u.messages) to ∙ ap (λ (l : List (Send OpValue)). posted i l w.messages) (sym sent_is)
+      again_messages : (happens m.count w (Recover i restarts)).messages ≡ posted i out.sends.items w.messages
+      again_messages = ap (λ (u : World OpValue). u.messages) to
+          ∙ ap (λ (l : List (Send OpValue)). posted i l w.messages) (sym sent_is)
 
-    again_may : stage shown i ≡ down → StartsAgain m.count m.journaled shown i restarts out (Recover i restarts ∷ []) w
-    again_may s = record {
-      alone = alone_is;
-      again = s;
-      gives = record { sends = again_messages; replies = ap (λ (u : World OpValue). u.replies) to ∙ ap (λ (o : Outcome OpValue). answered i o.replies w.replies) (sym sends) };
-      one = refl;
-    }
+      again_may : stage shown i ≡ down → StartsAgain m.count m.journaled shown i restarts out (Recover i restarts ∷ []) w
+      again_may s = record {
+        alone = alone_is;
+        again = s;
+        gives = record {
+          sends = again_messages;
+          replies = ap (λ (u : World OpValue). u.replies) to
+              ∙ ap (λ (o : Outcome OpValue). answered i o.replies w.replies) (sym sends);
+        };
+        one = refl;
+      }
 
-    again_nonces : AreUpTo (happens m.count w (Recover i restarts)) i n.restarts
-    again_nonces y h = go (used_more restarts y (w.nonces i) (ap (λ l. has_used y l) (sym (ap (λ (u : World OpValue). u.nonces i) to ∙ put_here i (restarts ∷ w.nonces i) w.nonces)) ∙ h))
-      where
-        go : (restarts ≡ y) ⊎ (has_used y (w.nonces i) ≡ true) → y ≤ n.restarts
-        go (inl e) = omega (arith, e, is)
-        go (inr e) = let le : y ≤ most = nonces_are y e in omega (arith, le, is, nonce, above)
+      again_nonces : AreUpTo (happens m.count w (Recover i restarts)) i n.restarts
+      again_nonces y h = go (used_more restarts y (w.nonces i)
+          (ap (λ l. has_used y l) (sym (ap (λ (u : World OpValue). u.nonces i) to ∙ put_here i (restarts ∷ w.nonces i)
+          w.nonces)) ∙ h))
+        where
+          go : (restarts ≡ y) ⊎ (has_used y (w.nonces i) ≡ true) → y ≤ n.restarts
+          go (inl e) = omega (arith, e, is)
+          go (inr e) = let le : y ≤ most = nonces_are y e in omega (arith, le, is, nonce, above)
 
-    again_up : IsPlaced n.device → IsUp m (happens m.count w (Recover i restarts)) i n
-    again_up placed = record {
-      index = b.index;
-      count = b.count;
-      cluster = b.cluster;
-      running = b.running;
-      replica = ap (λ (u : World OpValue). u.replicas i) to ∙ put_here i (Some (recovering m.count (w.stored i) restarts)) w.replicas ∙ ap (λ (r : State OpValue). Some r) (sym state_is);
-      stored = ap (λ (u : World OpValue). u.stored i) to ∙ put_here i (w.stored i) w.stored ∙ ap (λ (r : State OpValue). r.view_number) (sym state_is);
-      nonces = again_nonces;
-      schema = b.schema;
-      suffix = b.suffix;
-      executed = subst (λ (l : List (LogEntry OpValue)). IsPrefix l (take n.replica.commit_number n.replica.log)) (sym b.records) (prefix_nil (take n.replica.commit_number n.replica.log));
-      pair = b.pair;
-      log = b.log;
-      journaled = journaled_is;
-      active = λ kept. absurd (true≢false (sym kept ∙ alone_is));
-      started = omega (arith, b.restarts_is, above);
-      placed = placed;
-    }
+      again_up : IsPlaced n.device → IsUp m (happens m.count w (Recover i restarts)) i n
+      again_up placed = record {
+        index = b.index;
+        count = b.count;
+        cluster = b.cluster;
+        running = b.running;
+        replica = ap (λ (u : World OpValue). u.replicas i) to
+            ∙ put_here i (Some (recovering m.count (w.stored i) restarts)) w.replicas
+            ∙ ap (λ (r : State OpValue). Some r) (sym state_is);
+        stored = ap (λ (u : World OpValue). u.stored i) to ∙ put_here i (w.stored i) w.stored
+            ∙ ap (λ (r : State OpValue). r.view_number) (sym state_is);
+        nonces = again_nonces;
+        schema = b.schema;
+        suffix = b.suffix;
+        executed = subst (λ (l : List (LogEntry OpValue)). IsPrefix l (take n.replica.commit_number n.replica.log))
+            (sym b.records) (prefix_nil (take n.replica.commit_number n.replica.log));
+        pair = b.pair;
+        log = b.log;
+        journaled = journaled_is;
+        active = λ kept. absurd (true≢false (sym kept ∙ alone_is));
+        started = omega (arith, b.restarts_is, above);
+        placed = placed;
+      }
 
-    -- what it gives out was sent
-    again_sent : (j at : ℕ) (y : Message OpValue) → j ≡ i → message_of j out at ≡ Some y → (k : ℕ) × (sent_as k (happens m.count w (Recover i restarts)).messages ≡ Some y)
-    again_sent j at y e = go (slice_get out.sends.items at) refl
-      where
-        go : (o : Option (Send OpValue)) → slice_get out.sends.items at ≡ o → message_by j o ≡ Some y → (k : ℕ) × (sent_as k (happens m.count w (Recover i restarts)).messages ≡ Some y)
-        go None f h = absurd (cc)
-        go (Some s) f h =
-            let k = posted_has i at out.sends.items w.messages s f in
-            (k.0, ap (λ l. sent_as k.0 l) again_messages ∙ k.1 ∙ ap (λ (z : ℕ). message_by z (Some s)) (sym e) ∙ h)
+      -- what it gives out was sent
+      again_sent : (j at : ℕ) (y : Message OpValue) → j ≡ i → message_of j out at ≡ Some y → (k : ℕ)
+          × (sent_as k (happens m.count w (Recover i restarts)).messages ≡ Some y)
+      again_sent j at y e = go (slice_get out.sends.items at) refl
+        where
+          go : (o : Option (Send OpValue)) → slice_get out.sends.items at ≡ o → message_by j o ≡ Some y → (k : ℕ)
+              × (sent_as k (happens m.count w (Recover i restarts)).messages ≡ Some y)
+          go None f h = absurd (cc)
+          go (Some s) f h =
+              let k = posted_has i at out.sends.items w.messages s f in
+              (k.0, ap (λ l. sent_as k.0 l) again_messages ∙ k.1 ∙ ap (λ (z : ℕ). message_by z (Some s)) (sym e) ∙ h)
 
-    recovers_on : (j : ℕ) → j ≡ i → stage shown i ≡ down → (f : Fates) → IsPlaced n.device → Acted m w i shown (reply.Started j restarts out) (Up n f) (λ h. MayStart (reply.Started j restarts out) h)
-    recovers_on j own_is was f placed = record {
-      happened = Recover i restarts ∷ [];
-      may = (own_is, inr (inl (again_may was)));
-      moved = record {
-        later = again_later;
-        apart = λ k ne s. stage_apart i j k up s own_is ne;
-        stands = (stage_own i j up (stage shown i) own_is, again_up placed);
-        sent = λ part at y h. again_sent j at y own_is h;
-      };
-    }
+      recovers_on : (j : ℕ) → j ≡ i → stage shown i ≡ down → (f : Fates) → IsPlaced n.device →
+          Acted m w i shown (reply.Started j restarts out) (Up n f) (λ h. MayStart (reply.Started j restarts out) h)
+      recovers_on j own_is was f placed = record {
+        happened = Recover i restarts ∷ [];
+        may = (own_is, inr (inl (again_may was)));
+        moved = record {
+          later = again_later;
+          apart = λ k ne s. stage_apart i j k up s own_is ne;
+          stands = (stage_own i j up (stage shown i) own_is, again_up placed);
+          sent = λ part at y h. again_sent j at y own_is h;
+        };
+      }
 
   -- a later start at which the replica goes on from its journal
-  module _ (n : MemoryNode) (out : Outputs OpValue) (restarts x most : ℕ) (t : Told) (k : HasKept w i t) (down_is : w.replicas i ≡ None) (nonces_are : AreUpTo w i most) (above : most < x)
-      (b : IsBorn m i (resuming m.count t.kept.view t.kept.k (change_of t.kept)) x n) (is : restarts ≡ n.restarts) (sends : gives n.replica out ≡ idle (resuming m.count t.kept.view t.kept.k (change_of t.kept)))
+  module _ (n : MemoryNode) (out : Outputs OpValue) (restarts x most : ℕ) (t : Told) (k : HasKept w i t)
+      (down_is : w.replicas i ≡ None) (nonces_are : AreUpTo w i most) (above : most < x)
+      (b : IsBorn m i (resuming m.count t.kept.view t.kept.k (change_of t.kept)) x n) (is : restarts ≡ n.restarts)
+      (sends : gives n.replica out ≡ idle (resuming m.count t.kept.view t.kept.k (change_of t.kept)))
       (over_is : m.journaled ≡ true) (journaled_is : is_some n.journal ≡ m.journaled) where
     -- a replica that goes on, by what is kept of it
     abbrev gone_on : ℕ → ℕ → List (LogEntry OpValue) → ℕ → State OpValue
-    gone_on view last log many = record (first m.count) { view_number = view; status = cond (last == view) Normal ViewChange; last_normal_view = last; log = log; commit_number = many }
+    gone_on view last log many = record (first m.count) {
+      view_number = view;
+      status = cond (last == view) Normal
+          ViewChange;
+      last_normal_view = last;
+      log = log;
+      commit_number = many;
+    }
 
     state_on : n.replica ≡ resuming m.count (w.stored i) t.kept.k k.change
     state_on = b.replica ∙ (λ z. gone_on (sym k.stored z) (sym k.last z) (sym k.log z) (same z))
@@ -231,21 +269,28 @@ module _ (m : Machine) (w : World OpValue) (i : ℕ) (lt : i < m.count) (shown :
       count = b.count;
       cluster = b.cluster;
       running = b.running;
-      replica = ap (λ (u : World OpValue). u.replicas i) to_on ∙ put_here i (Some (resuming m.count (w.stored i) t.kept.k k.change)) w.replicas ∙ ap (λ (r : State OpValue). Some r) (sym state_on);
-      stored = ap (λ (u : World OpValue). u.stored i) to_on ∙ put_here i (w.stored i) w.stored ∙ ap (λ (r : State OpValue). r.view_number) (sym state_on);
-      nonces = λ y h. let le : y ≤ most = nonces_are y (ap (λ (u : World OpValue). has_used y (u.nonces i)) (sym to_on) ∙ h) in omega (arith, le, above, b.restarts_is);
+      replica = ap (λ (u : World OpValue). u.replicas i) to_on
+          ∙ put_here i (Some (resuming m.count (w.stored i) t.kept.k k.change)) w.replicas
+          ∙ ap (λ (r : State OpValue). Some r) (sym state_on);
+      stored = ap (λ (u : World OpValue). u.stored i) to_on ∙ put_here i (w.stored i) w.stored
+          ∙ ap (λ (r : State OpValue). r.view_number) (sym state_on);
+      nonces = λ y h. let le : y ≤ most = nonces_are y (ap (λ (u : World OpValue). has_used y (u.nonces i))
+          (sym to_on) ∙ h) in omega (arith, le, above, b.restarts_is);
       schema = b.schema;
       suffix = b.suffix;
-      executed = subst (λ (l : List (LogEntry OpValue)). IsPrefix l (take n.replica.commit_number n.replica.log)) (sym b.records) (prefix_nil (take n.replica.commit_number n.replica.log));
+      executed = subst (λ (l : List (LogEntry OpValue)). IsPrefix l (take n.replica.commit_number n.replica.log))
+          (sym b.records) (prefix_nil (take n.replica.commit_number n.replica.log));
       pair = b.pair;
       log = b.log;
       journaled = journaled_is;
-      active = λ kept. ap (λ (r : State OpValue). is_recovering r.status) b.replica ∙ goes_active (t.kept.last == t.kept.view);
+      active = λ kept. ap (λ (r : State OpValue). is_recovering r.status) b.replica
+          ∙ goes_active (t.kept.last == t.kept.view);
       started = omega (arith, b.restarts_is, above);
       placed = placed;
     }
 
-    goes_on_so : (j : ℕ) → j ≡ i → stage shown i ≡ down → (f : Fates) → IsPlaced n.device → Acted m w i shown (reply.Started j restarts out) (Up n f) (λ h. MayStart (reply.Started j restarts out) h)
+    goes_on_so : (j : ℕ) → j ≡ i → stage shown i ≡ down → (f : Fates) → IsPlaced n.device →
+        Acted m w i shown (reply.Started j restarts out) (Up n f) (λ h. MayStart (reply.Started j restarts out) h)
     goes_on_so j own_is was f placed = record {
       happened = Resume i t.kept.k ∷ [];
       may = (
@@ -258,8 +303,10 @@ module _ (m : Machine) (w : World OpValue) (i : ℕ) (lt : i < m.count) (shown :
           many = t.kept.k;
           low = k.low;
           gives = record {
-            sends = ap (λ (u : World OpValue). u.messages) to_on ∙ ap (λ (l : List (Send OpValue)). posted i l w.messages) (sym none);
-            replies = ap (λ (u : World OpValue). u.replies) to_on ∙ ap (λ (o : Outcome OpValue). answered i o.replies w.replies) (sym sends);
+            sends = ap (λ (u : World OpValue). u.messages) to_on
+                ∙ ap (λ (l : List (Send OpValue)). posted i l w.messages) (sym none);
+            replies = ap (λ (u : World OpValue). u.replies) to_on
+                ∙ ap (λ (o : Outcome OpValue). answered i o.replies w.replies) (sym sends);
           };
           one = refl;
         })),
@@ -273,7 +320,9 @@ module _ (m : Machine) (w : World OpValue) (i : ℕ) (lt : i < m.count) (shown :
     }
 
   -- a later start
-  over_on : OneIsTold → (left : Left) (n : MemoryNode) (f : Fates) (out : Outputs OpValue) (j restarts : ℕ) → j ≡ i → restarts ≡ n.restarts → stage shown i ≡ down → IsDown m w i left → (so : StartsOver m i left n out) → IsPlaced n.device
+  over_on : OneIsTold → (left : Left) (n : MemoryNode) (f : Fates) (out : Outputs OpValue) (j restarts : ℕ) → j ≡ i →
+      restarts ≡ n.restarts → stage shown i ≡ down → IsDown m w i left → (so : StartsOver m i left n out) →
+      IsPlaced n.device
       → Acted m w i shown (reply.Started j restarts out) (Up n f) (λ h. MayStart (reply.Started j restarts out) h)
   over_on one left n f out j restarts own_is is was d so placed = go left.journal d.journaled so.is d.kept
     where
@@ -292,26 +341,37 @@ module _ (m : Machine) (w : World OpValue) (i : ℕ) (lt : i < m.count) (shown :
       journaled : is_some n.journal ≡ m.journaled
       journaled = so.journaled ∙ d.journaled
 
-      go : (o : Option (Vec ℕ Global)) → is_some o ≡ m.journaled → IsStartOver (owner m i) so.pair o so.start → IsKeptBy w i d.pair.view o → Acted m w i shown (reply.Started j restarts out) (Up n f) (λ h. MayStart (reply.Started j restarts out) h)
+      go : (o : Option (Vec ℕ Global)) → is_some o ≡ m.journaled → IsStartOver (owner m i) so.pair o so.start →
+          IsKeptBy w i d.pair.view o → Acted m w i shown (reply.Started j restarts out) (Up n f)
+          (λ h. MayStart (reply.Started j restarts out) h)
       go None keeps e kept =
-          recovers_on n out restarts so.pair.view (so.pair.restarts + 1) d.pair.restarts d.down (view_is kept) d.nonces (omega (arith, ap (λ (p : Pair). p.restarts) same)) (born (alone (owner m i) so.pair) e) is (given_is (alone (owner m i) so.pair) e)
+          recovers_on n out restarts so.pair.view (so.pair.restarts + 1) d.pair.restarts d.down (view_is kept)
+          d.nonces (omega (arith, ap (λ (p : Pair). p.restarts) same)) (born (alone (owner m i) so.pair) e) is
+          (given_is (alone (owner m i) so.pair) e)
           (sym keeps) journaled j own_is was f placed
-      go (Some octets) keeps (inl b) kept = absurd (true≢false (sym (kept nothing_told (subst (λ (l : List (List ℕ)). Tells nothing_told l nothing_told) (sym b.empty) refl)).whole))
+      go (Some octets) keeps (inl b) kept =
+          absurd (true≢false (sym (kept nothing_told (subst (λ (l : List (List ℕ)). Tells nothing_told l nothing_told)
+          (sym b.empty) refl)).whole))
       go (Some octets) keeps (inr (inl b)) kept = absurd (true≢false (sym (kept b.told b.tells).whole ∙ b.lost))
       go (Some octets) keeps (inr (inr b)) kept =
-          goes_on_so n out restarts (so.pair.restarts + 1) d.pair.restarts b.told (kept b.told b.tells).has d.down d.nonces (omega (arith, ap (λ (p : Pair). p.restarts) same))
-          (born (resumed (owner m i) so.pair b.told) b.is) is (given_is (resumed (owner m i) so.pair b.told) b.is) (sym keeps) journaled j own_is was f placed
+          goes_on_so n out restarts (so.pair.restarts + 1) d.pair.restarts b.told (kept b.told b.tells).has d.down
+          d.nonces (omega (arith, ap (λ (p : Pair). p.restarts) same))
+          (born (resumed (owner m i) so.pair b.told) b.is) is (given_is (resumed (owner m i) so.pair b.told) b.is)
+          (sym keeps) journaled j own_is was f placed
 
   -- A start that was refused leaves the process down.
   left_down : OneIsTold → (old new : Left) → IsDown m w i old → IsLeftByStart m i old new → IsDown m w i new
   left_down one old new d left = by left.pair
     where
       -- what is kept, by the view of the pair that is there then
-      kept_left : (view : ℕ) → IsKeptBy w i view old.journal → (o p : Option (Vec ℕ Global)) → old.journal ≡ o → new.journal ≡ p → IsLogLeft m i old o p → IsKeptBy w i view p
+      kept_left : (view : ℕ) → IsKeptBy w i view old.journal → (o p : Option (Vec ℕ Global)) → old.journal ≡ o →
+          new.journal ≡ p → IsLogLeft m i old o p → IsKeptBy w i view p
       kept_left view h None None e f l = subst (λ (x : Option (Vec ℕ Global)). IsKeptBy w i view x) e h
-      kept_left view h (Some a) (Some b) e f (inl same) = subst (λ (l : List (List ℕ)). IsLogOf w i l) (sym same) (subst (λ (x : Option (Vec ℕ Global)). IsKeptBy w i view x) e h)
+      kept_left view h (Some a) (Some b) e f (inl same) = subst (λ (l : List (List ℕ)). IsLogOf w i l) (sym same)
+          (subst (λ (x : Option (Vec ℕ Global)). IsKeptBy w i view x) e h)
       kept_left view h (Some a) (Some b) e f (inr (pair, start, found_is, is, begun)) =
-          notes_left one w i (owner m i) pair (recorded a.items) start b.items is (subst (λ (x : Option (Vec ℕ Global)). IsKeptBy w i view x) e h) begun
+          notes_left one w i (owner m i) pair (recorded a.items) start b.items is
+          (subst (λ (x : Option (Vec ℕ Global)). IsKeptBy w i view x) e h) begun
       kept_left view h None (Some b) e f l = absurd l
       kept_left view h (Some a) None e f l = absurd l
 
@@ -329,15 +389,26 @@ module _ (m : Machine) (w : World OpValue) (i : ℕ) (lt : i < m.count) (shown :
       kept_at view h = kept_left view h old.journal new.journal refl refl left.log
 
       -- the view of a start over a journal, or over none
-      view_at : (pair : Pair) (start : Restart) → d.pair ≡ pair → (o : Option (Vec ℕ Global)) → IsStartOver (owner m i) pair o start → IsKeptBy w i d.pair.view o → IsKeptBy w i start.pair.view o
-      view_at pair start same None is h = h ∙ ap (λ (p : Pair). p.view) same ∙ sym (ap (λ (s : Restart). s.pair.view) is)
+      view_at : (pair : Pair) (start : Restart) → d.pair ≡ pair → (o : Option (Vec ℕ Global)) →
+          IsStartOver (owner m i) pair o start → IsKeptBy w i d.pair.view o → IsKeptBy w i start.pair.view o
+      view_at pair start same None is h = h ∙ ap (λ (p : Pair). p.view) same
+          ∙ sym (ap (λ (s : Restart). s.pair.view) is)
       view_at pair start same (Some octets) is h = h
 
-      more_at : (pair : Pair) (start : Restart) → d.pair ≡ pair → (o : Option (Vec ℕ Global)) → IsStartOver (owner m i) pair o start → d.pair.restarts ≤ start.pair.restarts
-      more_at pair start same None is = omega (arith, ap (λ (p : Pair). p.restarts) same, ap (λ (s : Restart). s.pair.restarts) is)
-      more_at pair start same (Some octets) (inl b) = omega (arith, ap (λ (p : Pair). p.restarts) same, ap (λ (s : Restart). s.pair.restarts) b.is)
-      more_at pair start same (Some octets) (inr (inl b)) = omega (arith, ap (λ (p : Pair). p.restarts) same, ap (λ (s : Restart). s.pair.restarts) b.is)
-      more_at pair start same (Some octets) (inr (inr b)) = omega (arith, ap (λ (p : Pair). p.restarts) same, ap (λ (s : Restart). s.pair.restarts) b.is)
+      more_at : (pair : Pair) (start : Restart) → d.pair ≡ pair → (o : Option (Vec ℕ Global)) →
+          IsStartOver (owner m i) pair o start → d.pair.restarts ≤ start.pair.restarts
+      more_at pair start same None is = omega (
+        arith,
+        ap (λ (p : Pair). p.restarts) same,
+        ap (λ (s : Restart).
+            s.pair.restarts) is,
+      )
+      more_at pair start same (Some octets) (inl b) =
+          omega (arith, ap (λ (p : Pair). p.restarts) same, ap (λ (s : Restart). s.pair.restarts) b.is)
+      more_at pair start same (Some octets) (inr (inl b)) =
+          omega (arith, ap (λ (p : Pair). p.restarts) same, ap (λ (s : Restart). s.pair.restarts) b.is)
+      more_at pair start same (Some octets) (inr (inr b)) =
+          omega (arith, ap (λ (p : Pair). p.restarts) same, ap (λ (s : Restart). s.pair.restarts) b.is)
 
       by : IsPairLeft m i old new → IsDown m w i new
       by (inl same) = record {
@@ -354,7 +425,8 @@ module _ (m : Machine) (w : World OpValue) (i : ℕ) (lt : i < m.count) (shown :
           same : d.pair ≡ pair
           same = cc (d.found_is, found_is)
 
-          go : (found m.cluster new.image.items ≡ own pair) ⊎ (found m.cluster new.image.items ≡ own start.pair) → IsDown m w i new
+          go : (found m.cluster new.image.items ≡ own pair) ⊎ (found m.cluster new.image.items ≡ own start.pair) →
+              IsDown m w i new
           go (inl former) = record {
             pair = d.pair;
             found_is = former ∙ ap (λ (p : Pair). own p) (sym same);
@@ -370,17 +442,25 @@ module _ (m : Machine) (w : World OpValue) (i : ℕ) (lt : i < m.count) (shown :
             down = d.down;
             journaled = journaled;
             kept = kept_at start.pair.view (view_at pair start same old.journal is d.kept);
-            nonces = λ x h. let le : x ≤ d.pair.restarts = d.nonces x h in let up_to : d.pair.restarts ≤ start.pair.restarts = more_at pair start same old.journal is in omega (arith, le, up_to);
+            nonces = λ x h. let le : x ≤ d.pair.restarts = d.nonces x h in let up_to : d.pair.restarts ≤
+                start.pair.restarts = more_at pair start same old.journal is in omega (arith, le, up_to);
             placed = image.placed;
           }
 
   -- nothing happens at a start that was refused
-  refused_on : (old new : Process) (x : MachineReply) → IsRefusal i x → ((t : Stage) → stage shown i ≡ t → stopped t ≡ t → StandsFor m w i t old → StandsFor m w i t new)
-      → (stopped (stage shown i) ≡ stage shown i) → StandsFor m w i (stage shown i) old → Acted m w i shown x new (λ h. MayStart x h)
+  refused_on : (old new : Process) (x : MachineReply) → IsRefusal i x → ((t : Stage) → stage shown i ≡ t →
+      stopped t ≡ t → StandsFor m w i t old → StandsFor m w i t new)
+      → (stopped (stage shown i) ≡ stage shown i) → StandsFor m w i (stage shown i) old →
+      Acted m w i shown x new (λ h. MayStart x h)
   refused_on old new (reply.Refused j e) is goes stays stands = record {
     happened = [];
     may = (is, refl);
-    moved = record { later = later_refl w i; apart = λ k ne s. refl; stands = goes (stage shown i) refl stays stands; sent = λ part at y h. absurd (cc) };
+    moved = record {
+      later = later_refl w i;
+      apart = λ k ne s. refl;
+      stands = goes (stage shown i) refl stays stands;
+      sent = λ part at y h. absurd (cc);
+    };
   }
   refused_on old new (reply.Stopped j e) is goes stays stands = record {
     happened = [];
@@ -388,17 +468,29 @@ module _ (m : Machine) (w : World OpValue) (i : ℕ) (lt : i < m.count) (shown :
     moved = record {
       later = later_refl w i;
       apart = λ k ne s. stage_apart i j k (stopped s) s is ne;
-      stands = subst (λ (t : Stage). StandsFor m w i t new) (sym (stage_own i j (stopped (stage shown i)) (stage shown i) is ∙ stays)) (goes (stage shown i) refl stays stands);
+      stands = subst (λ (t : Stage). StandsFor m w i t new)
+          (sym (stage_own i j (stopped (stage shown i)) (stage shown i) is ∙ stays)) (goes (stage shown i) refl stays
+          stands);
       sent = λ part at y h. absurd (cc);
     };
   }
   refused_on old new _ is goes stays stands = absurd is
 
   -- Replica i's process starts.
-  pub started_on : OneIsTold → (old new : Process) (x : MachineReply) → StandsFor m w i (stage shown i) old → IsStarted m i old new x → Acted m w i shown x new (λ h. MayStart x h)
+  pub started_on : OneIsTold → (old new : Process) (x : MachineReply) → StandsFor m w i (stage shown i) old →
+      IsStarted m i old new x → Acted m w i shown x new (λ h. MayStart x h)
   started_on one (Unborn old) (Up n f) (reply.Started j restarts out) stands is = record {
     happened = [];
-    may = (is.0, inl (record { first = stands.0; restarts_is = is.1 ∙ is.2.restarts_is; sends = none; nothing = refl }));
+    may = (
+      is.0,
+      inl (record {
+        first = stands.0;
+        restarts_is = is.1 ∙ is.2.restarts_is;
+        sends = none;
+        nothing =
+            refl;
+      }),
+    );
     moved = record {
       later = later_refl w i;
       apart = λ k ne s. stage_apart i j k up s is.0 ne;
@@ -409,19 +501,31 @@ module _ (m : Machine) (w : World OpValue) (i : ℕ) (lt : i < m.count) (shown :
     where
       none : out.sends.items ≡ []
       none = ap (λ (o : Outcome OpValue). o.sends) is.3
-  started_on one (Unborn old) (Unborn new) x stands is = refused_on (Unborn old) (Unborn new) x is (λ t e s h. h) (ap stopped stands.0 ∙ sym stands.0) stands
-  started_on one (Down left) (Up n f) (reply.Started j restarts out) stands is = over_on one left n f out j restarts is.0 is.1 stands.0 stands.1 is.2 (is.3 stands.1.placed)
+  started_on one (Unborn old) (Unborn new) x stands is = refused_on (Unborn old) (Unborn new) x is (λ t e s h. h)
+      (ap stopped stands.0 ∙ sym stands.0) stands
+  started_on one (Down left) (Up n f) (reply.Started j restarts out) stands is = over_on one left n f out j restarts
+      is.0 is.1 stands.0 stands.1 is.2 (is.3 stands.1.placed)
   started_on one (Down old) (Down new) x stands is =
-      refused_on (Down old) (Down new) x is.0 (λ t e s h. (h.0, left_down one old new h.1 (is.1 h.1.placed h.1.pair h.1.found_is))) (ap stopped stands.0 ∙ sym stands.0) stands
+      refused_on (Down old) (Down new) x is.0
+      (λ t e s h. (h.0, left_down one old new h.1 (is.1 h.1.placed h.1.pair h.1.found_is))) (ap stopped stands.0
+      ∙ sym stands.0) stands
   started_on one (Up old f) (Up new g) reply.Nothing stands is = record {
     happened = [];
     may = (refl, stands.0);
-    moved = record { later = later_refl w i; apart = λ k ne s. refl; stands = (stands.0, subst (λ (n : MemoryNode). IsUp m w i n) (sym is) stands.1); sent = λ part at y h. absurd (cc) };
+    moved = record {
+      later = later_refl w i;
+      apart = λ k ne s. refl;
+      stands =
+          (stands.0, subst (λ (n : MemoryNode). IsUp m w i n) (sym is) stands.1);
+      sent = λ part at y h. absurd (cc);
+    };
   }
   started_on one _ _ _ stands is = absurd is
 
 -- A node that was made is born.
-made_born : (m : Machine) (i : ℕ) (config : NodeConfig) (r : State OpValue) (restarts : ℕ) (n : MemoryNode) → arc_value config.schema ≡ arc_value m.schema → config.suffix ≡ m.suffix → config.cluster ≡ m.cluster → config.index ≡ i → config.count ≡ m.count
+made_born : (m : Machine) (i : ℕ) (config : NodeConfig) (r : State OpValue) (restarts : ℕ) (n : MemoryNode) →
+    arc_value config.schema ≡ arc_value m.schema → config.suffix ≡ m.suffix → config.cluster ≡ m.cluster →
+    config.index ≡ i → config.count ≡ m.count
     → IsMade config r restarts n → KeepsIt n → LogsIt n → IsBorn m i r restarts n
 made_born m i config r restarts n schema suffix cluster index count is_made pair log = record {
   index = is_made.index_is ∙ index;
@@ -448,38 +552,63 @@ own_pair nothing h = absurd h
 own_pair foreign h = absurd h
 
 -- What a device may hold after a call: what a crash may leave has what the call says of each moment.
-pub left_now : (old new : MemoryModel) (P : List ℕ → Type 0) → LeavesOnly (λ (d : MemoryModel). length d.events) (λ (d : MemoryModel). LeftSince d.base d.events) old new P
+pub left_now : (old new : MemoryModel) (P : List ℕ → Type 0) → LeavesOnly (λ (d : MemoryModel). length d.events)
+    (λ (d : MemoryModel). LeftSince d.base d.events) old new P
     → (image : List ℕ) → MayLeave new.base new.events image → P image
-left_now old new P any image left = any.each image (counts_now new.base new.events (length old.events) image any.later left)
+left_now old new P any image left = any.each image (counts_now new.base new.events (length old.events) image any.later
+    left)
 
 -- so what a device gives, and what a crash may leave of it, is as stores leave it
-pub placed_now : (old new : MemoryModel) (cluster : ℕ) (former : Finding) (pair : Pair) → IsWellPlaced (seen_after new.base new.events)
-    → LeavesOnly (λ (d : MemoryModel). length d.events) (λ (d : MemoryModel). LeftSince d.base d.events) old new (IsFormerOrNew cluster former pair) → IsPlaced new
-placed_now old new cluster former pair seen any = record { seen = seen; left = λ image left. (left_now old new (IsFormerOrNew cluster former pair) any image left).placed }
+pub placed_now : (old new : MemoryModel) (cluster : ℕ) (former : Finding) (pair : Pair) →
+    IsWellPlaced (seen_after new.base new.events)
+    → LeavesOnly (λ (d : MemoryModel). length d.events) (λ (d : MemoryModel). LeftSince d.base d.events) old new
+    (IsFormerOrNew cluster former pair) → IsPlaced new
+placed_now old new cluster former pair seen any = record {
+  seen = seen;
+  left = λ image left.
+      (left_now old new (IsFormerOrNew cluster former pair) any image left).placed;
+}
 
-module _ (m : Machine) (i : ℕ) (config : NodeConfig) (schema : arc_value config.schema ≡ arc_value m.schema) (suffix : config.suffix ≡ m.suffix) (cluster : config.cluster ≡ m.cluster) (index : config.index ≡ i) (count : config.count ≡ m.count)
-    (image : Vec ℕ Global) (device : MemoryModel) (device_is : device ≡ record { base = image.items; events = []; failures = 0 }) where
+module _ (m : Machine) (i : ℕ) (config : NodeConfig) (schema : arc_value config.schema ≡ arc_value m.schema)
+    (suffix : config.suffix ≡ m.suffix) (cluster : config.cluster ≡ m.cluster) (index : config.index ≡ i)
+    (count : config.count ≡ m.count)
+    (image : Vec ℕ Global) (device : MemoryModel) (device_is : device ≡ record {
+      base = image.items;
+      events =
+          [];
+      failures = 0;
+    }) where
   -- what is found in the octets that were left
   same : found config.cluster (seen_after device.base device.events) ≡ found m.cluster image.items
-  same = ap (λ (k : ℕ). found k (seen_after device.base device.events)) cluster ∙ ap (λ (d : MemoryModel). found m.cluster (seen_after d.base d.events)) device_is
+  same = ap (λ (k : ℕ). found k (seen_after device.base device.events)) cluster
+      ∙ ap (λ (d : MemoryModel). found m.cluster (seen_after d.base d.events)) device_is
 
   owner_same : owner_of config ≡ owner m i
-  owner_same = ap (λ (k : ℕ). owned k config.index config.count) cluster ∙ ap (λ (k : ℕ). owned m.cluster k config.count) index ∙ ap (λ (k : ℕ). owned m.cluster i k) count
+  owner_same = ap (λ (k : ℕ). owned k config.index config.count) cluster
+      ∙ ap (λ (k : ℕ). owned m.cluster k config.count) index ∙ ap (λ (k : ℕ). owned m.cluster i k) count
 
   -- octets as stores leave them
   held : IsWellPlaced image.items → IsWellPlaced (seen_after device.base device.events)
   held h = subst (λ (d : MemoryModel). IsWellPlaced (seen_after d.base d.events)) (sym device_is) h
 
   -- A start without a journal, as a node's own clauses say it.
-  pub alone_started : (n : MemoryNode) (out : Outputs OpValue) (restarts : ℕ) (fates : Fates) → IsOwn (found config.cluster (seen_after device.base device.events))
-      → IsMade config (recovering config.count (started_pair (found config.cluster (seen_after device.base device.events))).view (started_pair (found config.cluster (seen_after device.base device.events))).restarts)
+  pub alone_started : (n : MemoryNode) (out : Outputs OpValue) (restarts : ℕ) (fates : Fates) →
+      IsOwn (found config.cluster (seen_after device.base device.events))
+      → IsMade config (recovering config.count
+      (started_pair (found config.cluster (seen_after device.base device.events))).view
+      (started_pair (found config.cluster (seen_after device.base device.events))).restarts)
       (started_pair (found config.cluster (seen_after device.base device.events))).restarts n
-      → gives n.replica out ≡ recovers config.count config.index (started_pair (found config.cluster (seen_after device.base device.events))).view (started_pair (found config.cluster (seen_after device.base device.events))).restarts
-      → KeepsIt n → LogsIt n → is_some n.journal ≡ false → restarts ≡ n.restarts → (IsWellPlaced (seen_after device.base device.events) → IsPlaced n.device)
+      → gives n.replica out ≡ recovers config.count config.index
+      (started_pair (found config.cluster (seen_after device.base device.events))).view
+      (started_pair (found config.cluster (seen_after device.base device.events))).restarts
+      → KeepsIt n → LogsIt n → is_some n.journal ≡ false → restarts ≡ n.restarts →
+      (IsWellPlaced (seen_after device.base device.events) → IsPlaced n.device)
       → IsStarted m i (Down (record { image = image; journal = None })) (Up n fates) (reply.Started i restarts out)
-  alone_started n out restarts fates owned_is made sends keeps logs journaled restarts_is placed = go (own_pair (found config.cluster (seen_after device.base device.events)) owned_is)
+  alone_started n out restarts fates owned_is made sends keeps logs journaled restarts_is placed =
+      go (own_pair (found config.cluster (seen_after device.base device.events)) owned_is)
     where
-      go : (p : Pair) × (found config.cluster (seen_after device.base device.events) ≡ own p) → IsStarted m i (Down (record { image = image; journal = None })) (Up n fates) (reply.Started i restarts out)
+      go : (p : Pair) × (found config.cluster (seen_after device.base device.events) ≡ own p) →
+          IsStarted m i (Down (record { image = image; journal = None })) (Up n fates) (reply.Started i restarts out)
       go (p, e) = (
         refl,
         restarts_is,
@@ -488,21 +617,29 @@ module _ (m : Machine) (i : ℕ) (config : NodeConfig) (schema : arc_value confi
           found_is = sym same ∙ e;
           start = alone (owner m i) p;
           is = refl;
-          born = made_born m i config (recovering m.count p.view (p.restarts + 1)) (p.restarts + 1) n schema suffix cluster index count
+          born = made_born m i config (recovering m.count p.view (p.restarts + 1)) (p.restarts + 1) n schema suffix
+              cluster index count
               (subst (λ (k : ℕ). IsMade config (recovering k p.view (p.restarts + 1)) (p.restarts + 1) n) count
-              (subst (λ (f : Finding). IsMade config (recovering config.count (started_pair f).view (started_pair f).restarts) (started_pair f).restarts n) e made)) keeps logs;
+              (subst (λ (f : Finding). IsMade config (recovering config.count (started_pair f).view
+              (started_pair f).restarts) (started_pair f).restarts n) e made)) keeps logs;
           journaled = journaled;
-          gives = sends ∙ ap (λ (f : Finding). recovers config.count config.index (started_pair f).view (started_pair f).restarts) e ∙ ap (λ (k : ℕ). recovers k config.index p.view (p.restarts + 1)) count
+          gives = sends ∙ ap (λ (f : Finding). recovers config.count config.index (started_pair f).view
+              (started_pair f).restarts) e ∙ ap (λ (k : ℕ). recovers k config.index p.view (p.restarts + 1)) count
               ∙ ap (λ (k : ℕ). recovers m.count k p.view (p.restarts + 1)) index;
         },
         λ h. placed (held h),
       )
 
   -- A start over a journal.
-  pub over_started : (octets : Vec ℕ Global) (j : journals.MemoryModel) → j ≡ record { base = octets.items; events = []; failures = 0 } → (n : MemoryNode) (out : Outputs OpValue) (restarts : ℕ) (fates : Fates)
-      → IsRestarted config (found config.cluster (seen_after device.base device.events)) (recorded (journals.seen_after j.base j.events)) n out
-      → KeepsIt n → LogsIt n → is_some n.journal ≡ true → restarts ≡ n.restarts → (IsWellPlaced (seen_after device.base device.events) → IsPlaced n.device)
-      → IsStarted m i (Down (record { image = image; journal = Some octets })) (Up n fates) (reply.Started i restarts out)
+  pub over_started : (octets : Vec ℕ Global) (j : journals.MemoryModel) →
+      j ≡ record { base = octets.items; events = []; failures = 0 } → (n : MemoryNode) (out : Outputs OpValue)
+      (restarts : ℕ) (fates : Fates)
+      → IsRestarted config (found config.cluster (seen_after device.base device.events))
+      (recorded (journals.seen_after j.base j.events)) n out
+      → KeepsIt n → LogsIt n → is_some n.journal ≡ true → restarts ≡ n.restarts →
+      (IsWellPlaced (seen_after device.base device.events) → IsPlaced n.device)
+      → IsStarted m i (Down (record { image = image; journal = Some octets })) (Up n fates)
+      (reply.Started i restarts out)
   over_started octets j j_is n out restarts fates r keeps logs journaled restarts_is placed = (
     refl,
     restarts_is,
@@ -511,8 +648,10 @@ module _ (m : Machine) (i : ℕ) (config : NodeConfig) (schema : arc_value confi
       found_is = sym same ∙ r.found;
       start = r.start;
       is = subst (λ (o : Owner). IsRestart o r.former (recorded octets.items) r.start) owner_same
-          (subst (λ (x : journals.MemoryModel). IsRestart (owner_of config) r.former (recorded (journals.seen_after x.base x.events)) r.start) j_is r.is);
-      born = made_born m i config r.start.outcome.state r.start.pair.restarts n schema suffix cluster index count r.made keeps logs;
+          (subst (λ (x : journals.MemoryModel). IsRestart (owner_of config) r.former
+          (recorded (journals.seen_after x.base x.events)) r.start) j_is r.is);
+      born = made_born m i config r.start.outcome.state r.start.pair.restarts n schema suffix cluster index count
+          r.made keeps logs;
       journaled = journaled;
       gives = r.sends;
     },
@@ -521,12 +660,25 @@ module _ (m : Machine) (i : ℕ) (config : NodeConfig) (schema : arc_value confi
 
   -- the pair after a start that was refused, without a journal
   pub alone_refused : (new : Vec ℕ Global) (d : MemoryModel) (x : MachineReply)
-      → (IsWellPlaced (seen_after device.base device.events) → LeavesOnly (λ (e : MemoryModel). length e.events) (λ (e : MemoryModel). LeftSince e.base e.events) device d
-      (StartLeaves (λ (e : MemoryModel). seen_after e.base e.events) (λ (e : MemoryModel). MayLeave e.base e.events) config.cluster device))
-      → MayLeave d.base d.events new.items → IsRefusal i x → IsStarted m i (Down (record { image = image; journal = None })) (Down (record { image = new; journal = None })) x
-  alone_refused new d x any left refusal = (refusal, λ placed p own_is. record { pair = go p own_is (left_now device d _ (any (held placed)) new.items left); log = tt })
+      → (IsWellPlaced (seen_after device.base device.events) → LeavesOnly (λ (e : MemoryModel). length e.events)
+      (λ (e : MemoryModel). LeftSince e.base e.events) device d
+      (StartLeaves (λ (e : MemoryModel). seen_after e.base e.events) (λ (e : MemoryModel). MayLeave e.base e.events)
+      config.cluster device))
+      → MayLeave d.base d.events new.items → IsRefusal i x →
+      IsStarted m i (Down (record { image = image; journal = None }))
+      (Down (record { image = new; journal = None })) x
+  alone_refused new d x any left refusal = (
+    refusal,
+    λ placed p own_is. record {
+      pair = go p own_is (left_now device d _ (any (held placed)) new.items
+          left);
+      log = tt;
+    },
+  )
     where
-      go : (p : Pair) → found m.cluster image.items ≡ own p → StartLeaves (λ (e : MemoryModel). seen_after e.base e.events) (λ (e : MemoryModel). MayLeave e.base e.events) config.cluster device new.items
+      go : (p : Pair) → found m.cluster image.items ≡ own p →
+          StartLeaves (λ (e : MemoryModel). seen_after e.base e.events) (λ (e : MemoryModel). MayLeave e.base
+          e.events) config.cluster device new.items
           → IsPairLeft m i (record { image = image; journal = None }) (record { image = new; journal = None })
       go p own_is (inl before) = inl (subst (λ (e : MemoryModel). MayLeave e.base e.events new.items) device_is before)
       go p own_is (inr h) = inr (
@@ -534,75 +686,127 @@ module _ (m : Machine) (i : ℕ) (config : NodeConfig) (schema : arc_value confi
         alone (owner m i) p,
         own_is,
         refl,
-        subst (λ (f : Finding). IsFormerOrNew m.cluster f (started_pair f) new.items) (same ∙ own_is) (subst (λ (k : ℕ). IsFormerOrNew k (found config.cluster (seen_after device.base device.events)) (started_pair (found config.cluster (seen_after device.base device.events))) new.items) cluster h),
+        subst (λ (f : Finding). IsFormerOrNew m.cluster f (started_pair f) new.items) (same ∙ own_is)
+            (subst (λ (k : ℕ). IsFormerOrNew k (found config.cluster (seen_after device.base device.events))
+            (started_pair (found config.cluster (seen_after device.base device.events))) new.items) cluster h),
       )
 
   -- the pair and the journal after one over a journal
-  pub over_refused : (octets : Vec ℕ Global) (j : journals.MemoryModel) → j ≡ record { base = octets.items; events = []; failures = 0 } → (new : Left) (d : MemoryModel) (k : Option journals.MemoryModel) (x : MachineReply)
-      → (IsWellPlaced (seen_after device.base device.events) → LeavesOnly (λ (e : MemoryModel). length e.events) (λ (e : MemoryModel). LeftSince e.base e.events) device d
-      (RestartLeaves (λ (e : MemoryModel). seen_after e.base e.events) (λ (e : MemoryModel). MayLeave e.base e.events) (owner_of config) device (recorded (journals.seen_after j.base j.events))))
-      → LeavesOnlyIn (λ (e : journals.MemoryModel). length e.events) (λ (e : journals.MemoryModel). journals.LeftSince e.base e.events) (Some j) k
-      (RestartNotes (λ (e : journals.MemoryModel). journals.seen_after e.base e.events) (λ (e : journals.MemoryModel). journals.MayLeave e.base e.events) (owner_of config) (found config.cluster (seen_after device.base device.events)) j)
-      → MayLeave d.base d.events new.image.items → IsJournalLeft k new.journal → IsRefusal i x → IsStarted m i (Down (record { image = image; journal = Some octets })) (Down new) x
+  pub over_refused : (octets : Vec ℕ Global) (j : journals.MemoryModel) →
+      j ≡ record { base = octets.items; events = []; failures = 0 } → (new : Left) (d : MemoryModel)
+      (k : Option journals.MemoryModel) (x : MachineReply)
+      → (IsWellPlaced (seen_after device.base device.events) → LeavesOnly (λ (e : MemoryModel). length e.events)
+      (λ (e : MemoryModel). LeftSince e.base e.events) device d
+      (RestartLeaves (λ (e : MemoryModel). seen_after e.base e.events) (λ (e : MemoryModel). MayLeave e.base e.events)
+      (owner_of config) device (recorded (journals.seen_after j.base j.events))))
+      → LeavesOnlyIn (λ (e : journals.MemoryModel). length e.events) (λ (e : journals.MemoryModel). journals.LeftSince
+      e.base e.events) (Some j) k
+      (RestartNotes (λ (e : journals.MemoryModel). journals.seen_after e.base e.events) (λ (e : journals.MemoryModel).
+      journals.MayLeave e.base e.events) (owner_of config)
+      (found config.cluster (seen_after device.base device.events)) j)
+      → MayLeave d.base d.events new.image.items → IsJournalLeft k new.journal → IsRefusal i x →
+      IsStarted m i (Down (record { image = image; journal = Some octets })) (Down new) x
   over_refused octets j j_is new d k x any any_log left left_log refusal = (
     refusal,
-    λ placed p own_is. record { pair = pair_go (left_now device d _ (any (held placed)) new.image.items left); log = log_go new.journal left_log },
+    λ placed p own_is. record {
+      pair = pair_go (left_now device d _ (any (held placed)) new.image.items left);
+      log =
+          log_go new.journal left_log;
+    },
   )
     where
-      restart : (pair : Pair) (start : Restart) → IsRestart (owner_of config) pair (recorded (journals.seen_after j.base j.events)) start → IsRestart (owner m i) pair (recorded octets.items) start
+      restart : (pair : Pair) (start : Restart) → IsRestart (owner_of config) pair
+          (recorded (journals.seen_after j.base j.events)) start → IsRestart (owner m i) pair (recorded octets.items)
+          start
       restart pair start is = subst (λ (o : Owner). IsRestart o pair (recorded octets.items) start) owner_same
-          (subst (λ (y : journals.MemoryModel). IsRestart (owner_of config) pair (recorded (journals.seen_after y.base y.events)) start) j_is is)
+          (subst (λ (y : journals.MemoryModel). IsRestart (owner_of config) pair
+          (recorded (journals.seen_after y.base y.events)) start) j_is is)
 
-      pair_go : RestartLeaves (λ (e : MemoryModel). seen_after e.base e.events) (λ (e : MemoryModel). MayLeave e.base e.events) (owner_of config) device (recorded (journals.seen_after j.base j.events)) new.image.items
+      pair_go : RestartLeaves (λ (e : MemoryModel). seen_after e.base e.events) (λ (e : MemoryModel). MayLeave e.base
+          e.events) (owner_of config) device (recorded (journals.seen_after j.base j.events)) new.image.items
           → IsPairLeft m i (record { image = image; journal = Some octets }) new
-      pair_go (inl before) = inl (subst (λ (e : MemoryModel). MayLeave e.base e.events new.image.items) device_is before)
+      pair_go (inl before) = inl (subst (λ (e : MemoryModel). MayLeave e.base e.events new.image.items) device_is
+          before)
       pair_go (inr (pair, start, is, f, h)) = inr (
         pair,
         start,
         sym same ∙ f,
         restart pair start is,
-        subst (λ (y : Finding). IsFormerOrNew m.cluster y start.pair new.image.items) f (subst (λ (c : ℕ). IsFormerOrNew c (found config.cluster (seen_after device.base device.events)) start.pair new.image.items) cluster h),
+        subst (λ (y : Finding). IsFormerOrNew m.cluster y start.pair new.image.items) f
+            (subst (λ (c : ℕ). IsFormerOrNew c (found config.cluster (seen_after device.base device.events))
+            start.pair new.image.items) cluster h),
       )
 
-      log_go : (o : Option (Vec ℕ Global)) → IsJournalLeft k o → IsLogLeft m i (record { image = image; journal = Some octets }) (Some octets) o
+      log_go : (o : Option (Vec ℕ Global)) → IsJournalLeft k o →
+          IsLogLeft m i (record { image = image; journal = Some octets }) (Some octets) o
       log_go o l = by o (log_now (Some j) k _ any_log o l) l
         where
-          by : (o : Option (Vec ℕ Global)) → IsLeftWith (RestartNotes (λ (e : journals.MemoryModel). journals.seen_after e.base e.events) (λ (e : journals.MemoryModel). journals.MayLeave e.base e.events) (owner_of config) (found config.cluster (seen_after device.base device.events)) j) o
+          by : (o : Option (Vec ℕ Global)) →
+              IsLeftWith (RestartNotes (λ (e : journals.MemoryModel). journals.seen_after e.base e.events)
+              (λ (e : journals.MemoryModel). journals.MayLeave e.base e.events) (owner_of config)
+              (found config.cluster (seen_after device.base device.events)) j) o
               → IsJournalLeft k o → IsLogLeft m i (record { image = image; journal = Some octets }) (Some octets) o
-          by (Some b) (inl (inl before)) l = inl (ap recorded (subst (λ (y : journals.MemoryModel). journals.MayLeave y.base y.events b.items) j_is before))
-          by (Some b) (inl (inr reads)) l = inl (reads ∙ ap (λ (y : journals.MemoryModel). recorded (journals.seen_after y.base y.events)) j_is)
+          by (Some b) (inl (inl before)) l =
+              inl (ap recorded (subst (λ (y : journals.MemoryModel). journals.MayLeave y.base y.events b.items) j_is
+              before))
+          by (Some b) (inl (inr reads)) l =
+              inl (reads ∙ ap (λ (y : journals.MemoryModel). recorded (journals.seen_after y.base y.events)) j_is)
           by (Some b) (inr (pair, start, f, is, begun)) l = inr (
             pair,
             start,
             sym same ∙ f,
             restart pair start is,
-            subst (λ (y : journals.MemoryModel). IsBegun (recorded (journals.seen_after y.base y.events)) start.notes b.items) j_is begun,
+            subst (λ (y : journals.MemoryModel). IsBegun (recorded (journals.seen_after y.base y.events)) start.notes
+                b.items) j_is begun,
           )
           by None h l = nothing_left k any_log l
             where
-              nothing_left : (k : Option journals.MemoryModel) → LeavesOnlyIn (λ (e : journals.MemoryModel). length e.events) (λ (e : journals.MemoryModel). journals.LeftSince e.base e.events) (Some j) k
-                  (RestartNotes (λ (e : journals.MemoryModel). journals.seen_after e.base e.events) (λ (e : journals.MemoryModel). journals.MayLeave e.base e.events) (owner_of config) (found config.cluster (seen_after device.base device.events)) j)
-                  → IsJournalLeft k None → IsLogLeft m i (record { image = image; journal = Some octets }) (Some octets) None
+              nothing_left : (k : Option journals.MemoryModel) →
+                  LeavesOnlyIn (λ (e : journals.MemoryModel). length e.events) (λ (e : journals.MemoryModel).
+                  journals.LeftSince e.base e.events) (Some j) k
+                  (RestartNotes (λ (e : journals.MemoryModel). journals.seen_after e.base e.events)
+                  (λ (e : journals.MemoryModel). journals.MayLeave e.base e.events) (owner_of config)
+                  (found config.cluster (seen_after device.base device.events)) j)
+                  → IsJournalLeft k None → IsLogLeft m i (record { image = image; journal = Some octets })
+                  (Some octets) None
               nothing_left None any l = absurd any
               nothing_left (Some a) any l = absurd l
 
   -- A node that started again has its device as stores leave it.
-  pub alone_placed : (new : MemoryModel) → (IsWellPlaced (seen_after device.base device.events) → IsWellPlaced (seen_after new.base new.events))
-      → (IsWellPlaced (seen_after device.base device.events) → LeavesOnly (λ (d : MemoryModel). length d.events) (λ (d : MemoryModel). LeftSince d.base d.events) device new
-      (StartLeaves (λ (d : MemoryModel). seen_after d.base d.events) (λ (d : MemoryModel). MayLeave d.base d.events) config.cluster device))
+  pub alone_placed : (new : MemoryModel) → (IsWellPlaced (seen_after device.base device.events) →
+      IsWellPlaced (seen_after new.base new.events))
+      → (IsWellPlaced (seen_after device.base device.events) → LeavesOnly (λ (d : MemoryModel). length d.events)
+      (λ (d : MemoryModel). LeftSince d.base d.events) device new
+      (StartLeaves (λ (d : MemoryModel). seen_after d.base d.events) (λ (d : MemoryModel). MayLeave d.base d.events)
+      config.cluster device))
       → IsWellPlaced (seen_after device.base device.events) → IsPlaced new
-  alone_placed new seen any h = record { seen = seen h; left = λ octets l. go octets (left_now device new _ (any h) octets l) }
+  alone_placed new seen any h = record {
+    seen = seen h;
+    left = λ octets l. go octets (left_now device new _ (any h)
+        octets l);
+  }
     where
-      go : (octets : List ℕ) → StartLeaves (λ (d : MemoryModel). seen_after d.base d.events) (λ (d : MemoryModel). MayLeave d.base d.events) config.cluster device octets → IsWellPlaced octets
-      go octets (inl before) = subst IsWellPlaced (sym (subst (λ (d : MemoryModel). MayLeave d.base d.events octets) device_is before)) (subst (λ (d : MemoryModel). IsWellPlaced (seen_after d.base d.events)) device_is h)
+      go : (octets : List ℕ) → StartLeaves (λ (d : MemoryModel). seen_after d.base d.events)
+          (λ (d : MemoryModel). MayLeave d.base d.events) config.cluster device octets → IsWellPlaced octets
+      go octets (inl before) = subst IsWellPlaced (sym (subst (λ (d : MemoryModel). MayLeave d.base d.events octets)
+          device_is before)) (subst (λ (d : MemoryModel). IsWellPlaced (seen_after d.base d.events)) device_is h)
       go octets (inr p) = p.placed
 
-  pub over_placed : (strings : List (List ℕ)) (new : MemoryModel) → (IsWellPlaced (seen_after device.base device.events) → IsWellPlaced (seen_after new.base new.events))
-      → (IsWellPlaced (seen_after device.base device.events) → LeavesOnly (λ (d : MemoryModel). length d.events) (λ (d : MemoryModel). LeftSince d.base d.events) device new
-      (RestartLeaves (λ (d : MemoryModel). seen_after d.base d.events) (λ (d : MemoryModel). MayLeave d.base d.events) (owner_of config) device strings))
+  pub over_placed : (strings : List (List ℕ)) (new : MemoryModel) →
+      (IsWellPlaced (seen_after device.base device.events) → IsWellPlaced (seen_after new.base new.events))
+      → (IsWellPlaced (seen_after device.base device.events) → LeavesOnly (λ (d : MemoryModel). length d.events)
+      (λ (d : MemoryModel). LeftSince d.base d.events) device new
+      (RestartLeaves (λ (d : MemoryModel). seen_after d.base d.events) (λ (d : MemoryModel). MayLeave d.base d.events)
+      (owner_of config) device strings))
       → IsWellPlaced (seen_after device.base device.events) → IsPlaced new
-  over_placed strings new seen any h = record { seen = seen h; left = λ octets l. go octets (left_now device new _ (any h) octets l) }
+  over_placed strings new seen any h = record {
+    seen = seen h;
+    left = λ octets l. go octets
+        (left_now device new _ (any h) octets l);
+  }
     where
-      go : (octets : List ℕ) → RestartLeaves (λ (d : MemoryModel). seen_after d.base d.events) (λ (d : MemoryModel). MayLeave d.base d.events) (owner_of config) device strings octets → IsWellPlaced octets
-      go octets (inl before) = subst IsWellPlaced (sym (subst (λ (d : MemoryModel). MayLeave d.base d.events octets) device_is before)) (subst (λ (d : MemoryModel). IsWellPlaced (seen_after d.base d.events)) device_is h)
+      go : (octets : List ℕ) → RestartLeaves (λ (d : MemoryModel). seen_after d.base d.events)
+          (λ (d : MemoryModel). MayLeave d.base d.events) (owner_of config) device strings octets → IsWellPlaced octets
+      go octets (inl before) = subst IsWellPlaced (sym (subst (λ (d : MemoryModel). MayLeave d.base d.events octets)
+          device_is before)) (subst (λ (d : MemoryModel). IsWellPlaced (seen_after d.base d.events)) device_is h)
       go octets (inr (pair, start, is, f, p)) = p.placed

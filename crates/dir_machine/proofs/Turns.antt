@@ -18,15 +18,21 @@ joined_more (x ∷ xs) h = ap (λ l. x ++ l) (joined_more xs h) ∙ sym (append_
 
 module _ (s : SchemaModel) (root : List RdnModel) (n : ℕ) (journaled : Bool) where
   -- One event more.
-  pub in_turn_more : (before : List MachineReply) (es : List MachineEvent) (xs : List MachineReply) (hs : List (List (WorldEvent OpValue))) (w : World OpValue)
-      (e : MachineEvent) (x : MachineReply) (h : List (WorldEvent OpValue)) → HappenInTurn s root n journaled before es xs hs w
-      → MayHappen s root n journaled (before ++ xs) e x h (run n (joined hs) w) → HappenInTurn s root n journaled before (es ++ e ∷ []) (xs ++ x ∷ []) (hs ++ h ∷ []) w
-  in_turn_more before [] [] [] w e x h all one = (subst (λ (b : List MachineReply). MayHappen s root n journaled b e x h w) (append-nil before) one, tt)
+  pub in_turn_more : (before : List MachineReply) (es : List MachineEvent) (xs : List MachineReply)
+      (hs : List (List (WorldEvent OpValue))) (w : World OpValue)
+      (e : MachineEvent) (x : MachineReply) (h : List (WorldEvent OpValue)) → HappenInTurn s root n journaled before
+      es xs hs w
+      → MayHappen s root n journaled (before ++ xs) e x h (run n (joined hs) w) → HappenInTurn s root n journaled
+      before (es ++ e ∷ []) (xs ++ x ∷ []) (hs ++ h ∷ []) w
+  in_turn_more before [] [] [] w e x h all one =
+      (subst (λ (b : List MachineReply). MayHappen s root n journaled b e x h w) (append-nil before) one, tt)
   in_turn_more before (f ∷ es) (y ∷ xs) (g ∷ hs) w e x h all one = (
     all.0,
     in_turn_more (before ++ y ∷ []) es xs hs (run n g w) e x h all.1
-        (subst (λ (u : World OpValue). MayHappen s root n journaled ((before ++ y ∷ []) ++ xs) e x h u) (run-append n g (joined hs) w)
-        (subst (λ (b : List MachineReply). MayHappen s root n journaled b e x h (run n (joined (g ∷ hs)) w)) (sym (append_assoc before (y ∷ []) xs)) one)),
+        (subst (λ (u : World OpValue). MayHappen s root n journaled ((before ++ y ∷ []) ++ xs) e x h u)
+        (run-append n g (joined hs) w)
+        (subst (λ (b : List MachineReply). MayHappen s root n journaled b e x h (run n (joined (g ∷ hs)) w))
+        (sym (append_assoc before (y ∷ []) xs)) one)),
   )
   in_turn_more before [] [] (g ∷ hs) w e x h all one = absurd all
   in_turn_more before [] (y ∷ xs) hs w e x h all one = absurd all

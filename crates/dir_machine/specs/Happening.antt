@@ -35,7 +35,8 @@ use Rattle.dir_machine.specs.declared.replies.MachineReply.{MachineReply}
 use Rattle.dir_machine.specs.declared.replies.MachineReply.TheVariants as reply
 
 -- A message of the world, by its number, is the one that was given out for replica i at a place.
-pub record IsDelivery (before : List MachineReply) (i : ℕ) (o : Option (Message OpValue)) (w : World OpValue) (x : WorldEvent OpValue) : Type 0 where
+pub record IsDelivery (before : List MachineReply) (i : ℕ) (o : Option (Message OpValue)) (w : World OpValue)
+    (x : WorldEvent OpValue) : Type 0 where
   pub number : ℕ
   pub message : Message OpValue
   pub shown : o ≡ Some message
@@ -55,10 +56,13 @@ pub record GivesOut (n i : ℕ) (out : Outputs OpValue) (x : WorldEvent OpValue)
   pub sends : (happens n w x).messages ≡ posted i out.sends.items w.messages
   pub replies : (happens n w x).replies ≡ answered i out.replies.items w.replies
 
--- Of what a replica is given, each that it took is one event of the world, in order, and gave out what that sends and answers; the others are left out.
-abbrev pub TakesEach : ℕ → List MachineReply → ℕ → List Given → List (Result (Outputs OpValue) AllocError) → List (WorldEvent OpValue) → World OpValue → Type 0
+-- Of what a replica is given, each that it took is one event of the world, in order, and gave out what that sends and
+-- answers; the others are left out.
+abbrev pub TakesEach : ℕ → List MachineReply → ℕ → List Given → List (Result (Outputs OpValue) AllocError) →
+    List (WorldEvent OpValue) → World OpValue → Type 0
 TakesEach n before i [] [] [] w = Unit {0}
-TakesEach n before i (g ∷ gs) (Ok out ∷ outs) (x ∷ h) w = IsThat before i g w x × GivesOut n i out x w × TakesEach n before i gs outs h (happens n w x)
+TakesEach n before i (g ∷ gs) (Ok out ∷ outs) (x ∷ h) w = IsThat before i g w x × GivesOut n i out x w
+    × TakesEach n before i gs outs h (happens n w x)
 TakesEach n before i (g ∷ gs) (Err e ∷ outs) h w = TakesEach n before i gs outs h w
 TakesEach n before i _ _ _ w = ⊥
 
@@ -66,10 +70,13 @@ TakesEach n before i _ _ _ w = ⊥
 abbrev pub TakesSome : ℕ → List MachineReply → ℕ → List Given → List (WorldEvent OpValue) → World OpValue → Type 0
 TakesSome n before i [] h w = h ≡ []
 TakesSome n before i (g ∷ gs) h w = (h ≡ []) ⊎ TakesSome n before i gs h w
-    ⊎ ((x : WorldEvent OpValue) × (rest : List (WorldEvent OpValue)) × (h ≡ x ∷ rest) × IsThat before i g w x × TakesSome n before i gs rest (happens n w x))
+    ⊎ ((x : WorldEvent OpValue) × (rest : List (WorldEvent OpValue)) × (h ≡ x ∷ rest) × IsThat before i g w x
+    × TakesSome n before i gs rest (happens n w x))
 
--- The process ended inside a call: replica i crashes after some first of what it was given. What these events send and answer is shown nowhere.
-pub record EndsInside (n : ℕ) (before : List MachineReply) (i : ℕ) (gs : List Given) (h : List (WorldEvent OpValue)) (w : World OpValue) : Type 0 where
+-- The process ended inside a call: replica i crashes after some first of what it was given. What these events send and
+-- answer is shown nowhere.
+pub record EndsInside (n : ℕ) (before : List MachineReply) (i : ℕ) (gs : List Given) (h : List (WorldEvent OpValue))
+    (w : World OpValue) : Type 0 where
   pub taken : List (WorldEvent OpValue)
   pub some : TakesSome n before i gs taken w
   pub crash : h ≡ taken ++ Crash i ∷ []
@@ -93,21 +100,24 @@ abbrev pub IsNotToStart : ℕ → List MachineReply → ℕ → Type 0
 IsNotToStart n before i = (n ≤ i) ⊎ (stage before i ≡ up)
 
 -- A first start is nothing in the world: each replica of it is there from the beginning.
-pub record StartsFirst (before : List MachineReply) (i restarts : ℕ) (out : Outputs OpValue) (h : List (WorldEvent OpValue)) : Type 0 where
+pub record StartsFirst (before : List MachineReply) (i restarts : ℕ) (out : Outputs OpValue)
+    (h : List (WorldEvent OpValue)) : Type 0 where
   pub first : stage before i ≡ unborn
   pub restarts_is : restarts ≡ 1
   pub sends : out.sends.items ≡ []
   pub nothing : h ≡ []
 
 -- A later start without a journal is a recovery, with the number of the start as its nonce.
-pub record StartsAgain (n : ℕ) (journaled : Bool) (before : List MachineReply) (i restarts : ℕ) (out : Outputs OpValue) (h : List (WorldEvent OpValue)) (w : World OpValue) : Type 0 where
+pub record StartsAgain (n : ℕ) (journaled : Bool) (before : List MachineReply) (i restarts : ℕ)
+    (out : Outputs OpValue) (h : List (WorldEvent OpValue)) (w : World OpValue) : Type 0 where
   pub alone : journaled ≡ false
   pub again : stage before i ≡ down
   pub gives : GivesOut n i out (Recover i restarts) w
   pub one : h ≡ Recover i restarts ∷ []
 
 -- A later start over a journal goes on as that has kept the replica, with some of what it had committed.
-pub record GoesOnOver (n : ℕ) (journaled : Bool) (before : List MachineReply) (i : ℕ) (out : Outputs OpValue) (h : List (WorldEvent OpValue)) (w : World OpValue) : Type 0 where
+pub record GoesOnOver (n : ℕ) (journaled : Bool) (before : List MachineReply) (i : ℕ) (out : Outputs OpValue)
+    (h : List (WorldEvent OpValue)) (w : World OpValue) : Type 0 where
   pub over : journaled ≡ true
   pub again : stage before i ≡ down
   pub kept : Change OpValue
@@ -118,7 +128,8 @@ pub record GoesOnOver (n : ℕ) (journaled : Bool) (before : List MachineReply) 
   pub one : h ≡ Resume i many ∷ []
 
 -- A request is at one place of what is committed, that client's with that number, with that reply.
-pub record IsMadeIn (s : SchemaModel) (root : List RdnModel) (l : List (LogEntry OpValue)) (client : Client) (number place : ℕ) (reply : ReplyModel) : Type 0 where
+pub record IsMadeIn (s : SchemaModel) (root : List RdnModel) (l : List (LogEntry OpValue)) (client : Client)
+    (number place : ℕ) (reply : ReplyModel) : Type 0 where
   pub entry : LogEntry OpValue
   pub at : EntryAt entry place l
   pub client_is : entry.client ≡ client
@@ -130,14 +141,17 @@ abbrev pub IsDoneIn : SchemaModel → List RdnModel → List (LogEntry OpValue) 
 IsDoneIn s root l client number (done place reply) = IsMadeIn s root l client number place reply
 IsDoneIn s root l client number _ = Unit {0}
 
--- What the client table of a replica says of a request: the client's latest record is that request, which stands at a place, or waits at the normal
+-- What the client table of a replica says of a request: the client's latest record is that request, which stands at a
+-- place, or waits at the normal
 -- primary of its view; or it is a later request; or no record of it is known, or one that need not stay.
 abbrev pub IsByTable : ℕ → ℕ → State OpValue → Client → ℕ → OutcomeValue → Type 0
 IsByTable n i r client number (done place reply) =
     (last : Latest) × (latest client r.log ≡ Some last) × (last.request_number ≡ number) × (last.op_number ≡ place)
 IsByTable n i r client number pending =
-    (last : Latest) × (latest client r.log ≡ Some last) × (last.request_number ≡ number) × (leads n i r r.view_number ≡ true)
-IsByTable n i r client number stale = (last : Latest) × (latest client r.log ≡ Some last) × (number < last.request_number)
+    (last : Latest) × (latest client r.log ≡ Some last) × (last.request_number ≡ number)
+    × (leads n i r r.view_number ≡ true)
+IsByTable n i r client number stale = (last : Latest) × (latest client r.log ≡ Some last)
+    × (number < last.request_number)
 IsByTable n i r client number lost = (latest client r.log ≡ None)
     ⊎ ((last : Latest) × (latest client r.log ≡ Some last)
     × ((last.request_number < number) ⊎ ((last.request_number ≡ number) × (leads n i r r.view_number ≡ false))))
@@ -149,7 +163,8 @@ pub record IsByReplica (n i : ℕ) (w : World OpValue) (client : Client) (number
   pub by : IsByTable n i replica client number v
 
 -- A read found this after the first updates of those that are committed, as many as are said: no fewer than it named.
-pub record IsReadIn {A : Type 0} (s : SchemaModel) (root : List RdnModel) (l : List (LogEntry OpValue)) (named number : ℕ) (read : Directory → A) (found : A) : Type 0 where
+pub record IsReadIn {A : Type 0} (s : SchemaModel) (root : List RdnModel) (l : List (LogEntry OpValue))
+    (named number : ℕ) (read : Directory → A) (found : A) : Type 0 where
   pub enough : named ≤ number
   pub within : number ≤ length l
   pub is : found ≡ read (directory_of s root (ops_of (take number l)))
@@ -163,42 +178,64 @@ pub record IsTooEarly (l : List (LogEntry OpValue)) (named number : ℕ) : Type 
 pub record IsReplica (n i : ℕ) (w : World OpValue) (x : MachineReply) : Type 0 where
   pub replica : State OpValue
   pub there : w.replicas i ≡ Some replica
-  pub shown : x ≡ reply.Standing i replica.view_number (standing_by i (primary n replica.view_number) replica.status) (length replica.log) replica.commit_number
+  pub shown : x ≡ reply.Standing i replica.view_number (standing_by i (primary n replica.view_number) replica.status)
+      (length replica.log) replica.commit_number
 
 -- What may happen in the world at an event that gets this reply.
-abbrev pub MayHappen : SchemaModel → List RdnModel → ℕ → Bool → List MachineReply → MachineEvent → MachineReply → List (WorldEvent OpValue) → World OpValue → Type 0
-MayHappen s root n journaled before (event.Give i g) reply.Nothing h w = (h ≡ []) × (IsAway n before i ⊎ IsMissing before i g)
-MayHappen s root n journaled before (event.Give i g) (reply.Handled j outs behind) h w = (j ≡ i) × TakesEach n before i (g ∷ []) outs.items h w
+abbrev pub MayHappen : SchemaModel → List RdnModel → ℕ → Bool → List MachineReply → MachineEvent → MachineReply →
+    List (WorldEvent OpValue) → World OpValue → Type 0
+MayHappen s root n journaled before (event.Give i g) reply.Nothing h w = (h ≡ [])
+    × (IsAway n before i ⊎ IsMissing before i g)
+MayHappen s root n journaled before (event.Give i g) (reply.Handled j outs behind) h w = (j ≡ i)
+    × TakesEach n before i (g ∷ []) outs.items h w
 MayHappen s root n journaled before (event.Give i g) (reply.Refused j e) h w = (j ≡ i) × (e ≡ NoMemory) × (h ≡ [])
-MayHappen s root n journaled before (event.Give i g) (reply.Stopped j e) h w = (j ≡ i) × (e ≢ NoMemory) × EndsInside n before i (g ∷ []) h w
-MayHappen s root n journaled before (event.GiveAll i gs) reply.Nothing h w = (h ≡ []) × (IsAway n before i ⊎ IsOneMissing before i gs.items)
-MayHappen s root n journaled before (event.GiveAll i gs) (reply.Handled j outs behind) h w = (j ≡ i) × TakesEach n before i gs.items outs.items h w
+MayHappen s root n journaled before (event.Give i g) (reply.Stopped j e) h w = (j ≡ i) × (e ≢ NoMemory)
+    × EndsInside n before i (g ∷ []) h w
+MayHappen s root n journaled before (event.GiveAll i gs) reply.Nothing h w = (h ≡ [])
+    × (IsAway n before i ⊎ IsOneMissing before i gs.items)
+MayHappen s root n journaled before (event.GiveAll i gs) (reply.Handled j outs behind) h w = (j ≡ i)
+    × TakesEach n before i gs.items outs.items h w
 MayHappen s root n journaled before (event.GiveAll i gs) (reply.Refused j e) h w = (j ≡ i) × (e ≡ NoMemory) × (h ≡ [])
-MayHappen s root n journaled before (event.GiveAll i gs) (reply.Stopped j e) h w = (j ≡ i) × (e ≢ NoMemory) × EndsInside n before i gs.items h w
+MayHappen s root n journaled before (event.GiveAll i gs) (reply.Stopped j e) h w = (j ≡ i) × (e ≢ NoMemory)
+    × EndsInside n before i gs.items h w
 MayHappen s root n journaled before (event.Crash i fates) reply.Nothing h w = (h ≡ []) × IsAway n before i
 MayHappen s root n journaled before (event.Crash i fates) (reply.Crashed j) h w = (j ≡ i) × (h ≡ Crash i ∷ [])
 MayHappen s root n journaled before (event.Start i faults fates) reply.Nothing h w = (h ≡ []) × IsNotToStart n before i
-MayHappen s root n journaled before (event.Start i faults fates) (reply.Started j restarts out) h w = (j ≡ i) × (StartsFirst before i restarts out h ⊎ StartsAgain n journaled before i restarts out h w ⊎ GoesOnOver n journaled before i out h w)
+MayHappen s root n journaled before (event.Start i faults fates) (reply.Started j restarts out) h w = (j ≡ i)
+    × (StartsFirst before i restarts out h ⊎ StartsAgain n journaled before i restarts out h w
+    ⊎ GoesOnOver n journaled before i out h w)
 MayHappen s root n journaled before (event.Start i faults fates) (reply.Refused j e) h w = (j ≡ i) × (h ≡ [])
 MayHappen s root n journaled before (event.Start i faults fates) (reply.Stopped j e) h w = (j ≡ i) × (h ≡ [])
 MayHappen s root n journaled before (event.Ask i client number) reply.Nothing h w = (h ≡ []) × IsAway n before i
-MayHappen s root n journaled before (event.Ask i client number) (reply.Outcome j o) h w = (j ≡ i) × (h ≡ []) × IsByReplica n i w client number (became_view o) × IsDoneIn s root (committed n w.messages) client number (became_view o)
+MayHappen s root n journaled before (event.Ask i client number) (reply.Outcome j o) h w = (j ≡ i) × (h ≡ [])
+    × IsByReplica n i w client number (became_view o) × IsDoneIn s root (committed n w.messages) client number
+    (became_view o)
 MayHappen s root n journaled before (event.Search i named q) reply.Nothing h w = (h ≡ []) × IsAway n before i
 MayHappen s root n journaled before (event.Search i named q) (reply.Found j number a) h w =
-    (j ≡ i) × (h ≡ []) × IsReadIn s root (committed n w.messages) named number (λ d. answer d (search_view q)) (answer_view a)
-MayHappen s root n journaled before (event.Search i named q) (reply.NotYet j number) h w = (j ≡ i) × (h ≡ []) × IsTooEarly (committed n w.messages) named number
-MayHappen s root n journaled before (event.Search i named q) (reply.Refused j e) h w = (j ≡ i) × (e ≡ NoMemory) × (h ≡ [])
+    (j ≡ i) × (h ≡ []) × IsReadIn s root (committed n w.messages) named number (λ d. answer d (search_view q))
+    (answer_view a)
+MayHappen s root n journaled before (event.Search i named q) (reply.NotYet j number) h w = (j ≡ i) × (h ≡ [])
+    × IsTooEarly (committed n w.messages) named number
+MayHappen s root n journaled before (event.Search i named q) (reply.Refused j e) h w = (j ≡ i) × (e ≡ NoMemory)
+    × (h ≡ [])
 MayHappen s root n journaled before (event.Compare i named q) reply.Nothing h w = (h ≡ []) × IsAway n before i
 MayHappen s root n journaled before (event.Compare i named q) (reply.Compared j number r) h w =
-    (j ≡ i) × (h ≡ []) × IsReadIn s root (committed n w.messages) named number (λ d. compared d (compare_view q)) (reply_view r)
-MayHappen s root n journaled before (event.Compare i named q) (reply.NotYet j number) h w = (j ≡ i) × (h ≡ []) × IsTooEarly (committed n w.messages) named number
-MayHappen s root n journaled before (event.Compare i named q) (reply.Refused j e) h w = (j ≡ i) × (e ≡ NoMemory) × (h ≡ [])
+    (j ≡ i) × (h ≡ []) × IsReadIn s root (committed n w.messages) named number (λ d. compared d (compare_view q))
+    (reply_view r)
+MayHappen s root n journaled before (event.Compare i named q) (reply.NotYet j number) h w = (j ≡ i) × (h ≡ [])
+    × IsTooEarly (committed n w.messages) named number
+MayHappen s root n journaled before (event.Compare i named q) (reply.Refused j e) h w = (j ≡ i) × (e ≡ NoMemory)
+    × (h ≡ [])
 MayHappen s root n journaled before (event.State i) reply.Nothing h w = (h ≡ []) × IsAway n before i
-MayHappen s root n journaled before (event.State i) (reply.Standing j v st p k) h w = (h ≡ []) × IsReplica n i w (reply.Standing j v st p k)
+MayHappen s root n journaled before (event.State i) (reply.Standing j v st p k) h w = (h ≡ [])
+    × IsReplica n i w (reply.Standing j v st p k)
 MayHappen s root n journaled before _ _ h w = ⊥
 
--- What happens in the world at the events of a schedule, one after another: of each event one reply, and a list of world events that may happen at it.
-abbrev pub HappenInTurn : SchemaModel → List RdnModel → ℕ → Bool → (before : List MachineReply) → List MachineEvent → List MachineReply → List (List (WorldEvent OpValue)) → World OpValue → Type 0
+-- What happens in the world at the events of a schedule, one after another: of each event one reply, and a list of
+-- world events that may happen at it.
+abbrev pub HappenInTurn : SchemaModel → List RdnModel → ℕ → Bool → (before : List MachineReply) → List MachineEvent →
+    List MachineReply → List (List (WorldEvent OpValue)) → World OpValue → Type 0
 HappenInTurn s root n journaled before [] [] [] w = Unit {0}
-HappenInTurn s root n journaled before (e ∷ es) (x ∷ xs) (h ∷ hs) w = MayHappen s root n journaled before e x h w × HappenInTurn s root n journaled (before ++ x ∷ []) es xs hs (run n h w)
+HappenInTurn s root n journaled before (e ∷ es) (x ∷ xs) (h ∷ hs) w = MayHappen s root n journaled before e x h w
+    × HappenInTurn s root n journaled (before ++ x ∷ []) es xs hs (run n h w)
 HappenInTurn s root n journaled before _ _ _ w = ⊥

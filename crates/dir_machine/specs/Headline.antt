@@ -25,26 +25,35 @@ joined (xs ∷ rest) = xs ++ joined rest
 abbrev pub committed_after : ℕ → List (WorldEvent OpValue) → List (LogEntry OpValue)
 committed_after n es = committed n (after n es).messages
 
--- What is committed after these events is one list: it begins with each list that is chosen in any view, of which one begins with the other; it only grows; it
--- begins with what each replica has committed, which its log has; each client's request numbers rise along it, so that each request is there once at most; and
+-- What is committed after these events is one list: it begins with each list that is chosen in any view, of which one
+-- begins with the other; it only grows; it
+-- begins with what each replica has committed, which its log has; each client's request numbers rise along it, so that
+-- each request is there once at most; and
 -- of any majority of replicas that are up and don't recover, one has all of it, whatever ended before.
 pub record CommittedIsOneList (n : ℕ) (es : List (WorldEvent OpValue)) : Type 0 where
-  pub agree : (a b : List (LogEntry OpValue)) → IsChosen n (after n es).messages a → IsChosen n (after n es).messages b → IsPrefix a b ⊎ IsPrefix b a
+  pub agree : (a b : List (LogEntry OpValue)) → IsChosen n (after n es).messages a → IsChosen n (after n es).messages
+      b → IsPrefix a b ⊎ IsPrefix b a
   pub longest : (a : List (LogEntry OpValue)) → IsChosen n (after n es).messages a → IsPrefix a (committed_after n es)
   pub chosen : (committed_after n es ≡ []) ⊎ IsChosen n (after n es).messages (committed_after n es)
   pub grows : (k : ℕ) → IsPrefix (committed_after n (take k es)) (committed_after n es)
-  pub replicas : (i : ℕ) (r : State OpValue) → (after n es).replicas i ≡ Some r → IsPrefix (take r.commit_number r.log) (committed_after n es)
+  pub replicas : (i : ℕ) (r : State OpValue) → (after n es).replicas i ≡ Some r →
+      IsPrefix (take r.commit_number r.log) (committed_after n es)
   pub held : (i : ℕ) (r : State OpValue) → (after n es).replicas i ≡ Some r → r.commit_number ≤ length r.log
   pub rising : Rising (committed_after n es)
-  pub majorities : (quorum : ℕ → Bool) → n / 2 < count quorum (indices n) → ((j : ℕ) → quorum j ≡ true → TakesPart (after n es) j) → IsHeld (after n es) (committed_after n es)
+  pub majorities : (quorum : ℕ → Bool) → n / 2 < count quorum (indices n) →
+      ((j : ℕ) → quorum j ≡ true → TakesPart (after n es) j) → IsHeld (after n es) (committed_after n es)
 
--- Of any majority of processes that are up one has all that is committed in its log, whatever ended before, all at once too.
+-- Of any majority of processes that are up one has all that is committed in its log, whatever ended before, all at once
+-- too.
 abbrev pub MajoritiesKeep : ℕ → List MachineReply → List (WorldEvent OpValue) → Type 0
-MajoritiesKeep n shown es = (quorum : ℕ → Bool) → n / 2 < count quorum (indices n) → ((j : ℕ) → quorum j ≡ true → (j < n) × (stage shown j ≡ up)) → IsHeld (after n es) (committed_after n es)
+MajoritiesKeep n shown es = (quorum : ℕ → Bool) → n / 2 < count quorum (indices n) →
+    ((j : ℕ) → quorum j ≡ true → (j < n) × (stage shown j ≡ up)) → IsHeld (after n es) (committed_after n es)
 
--- There is one list of what happened in the world: the schedule gives it in turn, as what is shown says, and what is committed after it is one list, which
+-- There is one list of what happened in the world: the schedule gives it in turn, as what is shown says, and what is
+-- committed after it is one list, which
 -- journals keep.
-pub record IsWhole (s : SchemaModel) (root : List RdnModel) (n : ℕ) (journaled : Bool) (schedule : List MachineEvent) (shown : List MachineReply) : Type 0 where
+pub record IsWhole (s : SchemaModel) (root : List RdnModel) (n : ℕ) (journaled : Bool) (schedule : List MachineEvent)
+    (shown : List MachineReply) : Type 0 where
   pub happened : List (List (WorldEvent OpValue))
   pub in_turn : HappenInTurn s root n journaled [] schedule shown happened (start n)
   pub committed : CommittedIsOneList n (joined happened)

@@ -1,4 +1,5 @@
--- What is read from the replies that a machine has shown: where each process stands, and the messages that nodes gave out.
+-- What is read from the replies that a machine has shown: where each process stands, and the messages that nodes gave
+-- out.
 use Rattle.std.specs.Prelude.{ℕ, ◌==◌, cond, List, [], ◌∷◌, Option, Some, None, Result, Ok, Err, slice_get}
 use Rattle.std.specs.declared.alloc.AllocError.{AllocError}
 use Rattle.dir_node.specs.Outcomes.{OutcomeValue, done, pending, stale, lost}

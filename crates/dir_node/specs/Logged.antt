@@ -27,12 +27,14 @@ device_in None = None
 device_in (Some j) = Some j.device
 
 -- A device, where there is one, is the same one later, and a crash at any moment between leaves an image that has P.
-abbrev pub LeavesOnlyIn : {J : Type 0} → (J → ℕ) → (J → ℕ → List ℕ → Type 0) → (old new : Option J) → (List ℕ → Type 0) → Type 0
+abbrev pub LeavesOnlyIn : {J : Type 0} → (J → ℕ) → (J → ℕ → List ℕ → Type 0) → (old new : Option J) →
+    (List ℕ → Type 0) → Type 0
 LeavesOnlyIn moment left_since None None P = Unit {0}
 LeavesOnlyIn moment left_since (Some a) (Some b) P = LeavesOnly moment left_since a b P
 LeavesOnlyIn moment left_since _ _ P = ⊥
 
--- A crash at any moment of a call leaves a journal that tells, below this head, the replica after some first of the events that were taken.
+-- A crash at any moment of a call leaves a journal that tells, below this head, the replica after some first of the
+-- events that were taken.
 abbrev pub TellsSome : Told → (n i : ℕ) → State OpValue → List (Event OpValue) → List ℕ → Type 0
 TellsSome t n i r es image = IsMemoryOfTaken t n i r es (recorded image)
 
@@ -52,7 +54,8 @@ ReadsAsBefore seen may_leave j image = may_leave j image ⊎ (recorded image ≡
 -- A first start leaves an image that is read as before, or one with some first of what it notes.
 abbrev pub FirstLeaves : {J : Type 0} → (J → List ℕ) → (J → List ℕ → Type 0) → Option J → List Note → List ℕ → Type 0
 FirstLeaves seen may_leave None notes image = ⊥
-FirstLeaves seen may_leave (Some j) notes image = ReadsAsBefore seen may_leave j image ⊎ IsBegun (recorded (seen j)) notes image
+FirstLeaves seen may_leave (Some j) notes image = ReadsAsBefore seen may_leave j image ⊎ IsBegun (recorded (seen j))
+    notes image
 
 -- A start that is refused early leaves an image that is read as before.
 abbrev pub RefusedLeaves : {J : Type 0} → (J → List ℕ) → (J → List ℕ → Type 0) → Option J → List ℕ → Type 0

@@ -16,7 +16,8 @@ use Rattle.log_journal.specs.Told.{Told}
 use Rattle.dir_node.specs.Logged.{LeavesTold, head_of}
 use Rattle.dir_node.specs.declared.config.NodeConfig.{NodeConfig}
 
--- a node: its place among the replicas, its cluster, the replica's state, what it has executed, the device of its pair, its journal where it keeps one,
+-- a node: its place among the replicas, its cluster, the replica's state, what it has executed, the device of its pair,
+-- its journal where it keeps one,
 -- how often it was started, whether it has stopped for good, and how much is to be committed before sessions are served
 pub record NodeValue (D J : Type 0) : Type 0 where
   pub index : ℕ
@@ -42,7 +43,8 @@ head n = head_of n.cluster n.index n.count n.restarts
 abbrev pub KeepsPair : {D J : Type 0} → (D → List ℕ → Type 0) → NodeValue D J → Type 0
 KeepsPair may_leave n = (image : List ℕ) → may_leave n.device image → found n.cluster image ≡ own (pair_of n)
 
--- Every crash of the journal's device, where there is one, leaves a journal of this node: its restarts, and the replica's view, last normal view and
+-- Every crash of the journal's device, where there is one, leaves a journal of this node: its restarts, and the
+-- replica's view, last normal view and
 -- log, all of it.
 abbrev pub KeepsLog : {D J : Type 0} → (J → List ℕ → Type 0) → NodeValue D J → Type 0
 KeepsLog may_leave n = LeavesTold may_leave n.journal (head n) n.replica
@@ -55,7 +57,8 @@ CannotStore view image = (2 ^ 63 ≤ view) ⊎ (2 ^ 63 ≤ sequence_of (taken_fr
 abbrev pub given : State OpValue → Outputs OpValue → steps.Outcome OpValue
 given r out = record { state = r; sends = out.sends.items; replies = out.replies.items }
 
--- What is executed grows by the records that are due: by all of them, or, where the node is behind, by a front that leaves some.
+-- What is executed grows by the records that are due: by all of them, or, where the node is behind, by a front that
+-- leaves some.
 abbrev pub CatchesUp : Bool → (old due new : List (LogEntry OpValue)) → Type 0
 CatchesUp false old due new = new ≡ old ++ due
 CatchesUp true old due new = IsFront old due new
@@ -73,10 +76,16 @@ pub record IsSameNode {D J : Type 0} (old new : NodeValue D J) : Type 0 where
 
 -- nothing executed yet, over a configuration's schema, root and indexes
 abbrev pub nothing_executed : NodeConfig → ExecutedValue
-nothing_executed config = record { schema = arc_value config.schema; suffix = config.suffix; indexes = config.indexes; records = [] }
+nothing_executed config = record {
+  schema = arc_value config.schema;
+  suffix = config.suffix;
+  indexes = config.indexes;
+  records = [];
+}
 
 -- A node as it is made of a configuration: this state of its replica, nothing executed, so many restarts.
-pub record IsMade {D J : Type 0} (config : NodeConfig) (r : State OpValue) (restarts : ℕ) (n : NodeValue D J) : Type 0 where
+pub record IsMade {D J : Type 0} (config : NodeConfig) (r : State OpValue) (restarts : ℕ) (n : NodeValue D J) :
+    Type 0 where
   pub index_is : n.index ≡ config.index
   pub count_is : n.count ≡ config.count
   pub cluster_is : n.cluster ≡ config.cluster
@@ -106,9 +115,12 @@ started_pair (own p) = record { view = p.view; restarts = p.restarts + 1; journa
 -- A start may leave what the device might have left before, or one of the two pairs.
 abbrev pub StartLeaves : {D : Type 0} → (D → List ℕ) → (D → List ℕ → Type 0) → ℕ → D → List ℕ → Type 0
 StartLeaves seen may_leave cluster device image =
-    may_leave device image ⊎ IsFormerOrNew cluster (found cluster (seen device)) (started_pair (found cluster (seen device))) image
+    may_leave device image ⊎ IsFormerOrNew cluster (found cluster (seen device))
+    (started_pair (found cluster (seen device))) image
 
--- A pair has no next start: none of the cluster's was found, the restarts are at the greatest number, or the sequence of pairs is at its end.
+-- A pair has no next start: none of the cluster's was found, the restarts are at the greatest number, or the sequence
+-- of pairs is at its end.
 abbrev pub CannotStart : ℕ → List ℕ → Type 0
 CannotStart cluster image =
-    (found cluster image ≡ nothing) ⊎ (2 ^ 63 ≤ (started_pair (found cluster image)).restarts) ⊎ (2 ^ 63 ≤ sequence_of (taken_from image) + 1)
+    (found cluster image ≡ nothing) ⊎ (2 ^ 63 ≤ (started_pair (found cluster image)).restarts)
+    ⊎ (2 ^ 63 ≤ sequence_of (taken_from image) + 1)

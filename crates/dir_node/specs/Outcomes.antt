@@ -16,7 +16,8 @@ use Rattle.dir_node.specs.declared.standing.Standing.{Standing}
 use Rattle.dir_node.specs.declared.standing.Standing.TheVariants.{Primary, Backup, Changing, Recovering}
 use Rattle.dir_node.specs.NodeState.{NodeValue}
 
--- what became of a client's request: done as the update of a number, with its reply; still to come; made old by a later one; not known
+-- what became of a client's request: done as the update of a number, with its reply; still to come; made old by a later
+-- one; not known
 pub data OutcomeValue : Type 0 where
   done : ℕ → ReplyModel → OutcomeValue
   pending : OutcomeValue
@@ -30,7 +31,8 @@ outcome_view Pending = pending
 outcome_view Stale = stale
 outcome_view Lost = lost
 
--- the record at this place is executed with this reply, or may still come where the node runs as the normal primary of its view
+-- the record at this place is executed with this reply, or may still come where the node runs as the normal primary of
+-- its view
 abbrev pub outcome_at : {D J : Type 0} → NodeValue D J → ℕ → Option ReplyModel → OutcomeValue
 outcome_at n p (Some reply) = done p reply
 outcome_at n p None = cond (not n.is_halted && leads n.count n.index n.replica n.replica.view_number) pending lost
@@ -40,7 +42,8 @@ abbrev pub outcome_by : {D J : Type 0} → NodeValue D J → ℕ → Option Late
 outcome_by n number None = lost
 outcome_by n number (Some l) =
     cond (nat_lt number l.request_number) stale
-    (cond (l.request_number == number) (outcome_at n l.op_number (slice_get (replies_at n.executed) (l.op_number - 1))) lost)
+    (cond (l.request_number == number) (outcome_at n l.op_number (slice_get (replies_at n.executed)
+    (l.op_number - 1))) lost)
 
 -- what became of a client's request of this number
 abbrev pub outcome_of : {D J : Type 0} → NodeValue D J → Client → ℕ → OutcomeValue
@@ -54,4 +57,5 @@ standing_by index leader status.Recovering = Recovering
 
 -- where a node stands
 abbrev pub standing_of : {D J : Type 0} → NodeValue D J → Standing
-standing_of n = cond n.is_halted Recovering (standing_by n.index (primary n.count n.replica.view_number) n.replica.status)
+standing_of n = cond n.is_halted Recovering (standing_by n.index (primary n.count n.replica.view_number)
+    n.replica.status)

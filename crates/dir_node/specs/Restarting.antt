@@ -18,7 +18,8 @@ use Rattle.dir_node.specs.NodeState.{IsMade, NodeValue, given, pair_of}
 use Rattle.dir_node.specs.declared.config.NodeConfig.{NodeConfig}
 use Rattle.dir_node.specs.declared.owner.Owner.{Owner}
 
--- what a start stores, what it notes in the journal, the replica with what it sends, and how much is to be committed before sessions are served
+-- what a start stores, what it notes in the journal, the replica with what it sends, and how much is to be committed
+-- before sessions are served
 pub record Restart : Type 0 where
   pub pair : Pair
   pub notes : List Note
@@ -30,7 +31,8 @@ abbrev pub begins : Bool → Owner → List Note
 begins true o = Begin o.cluster o.index o.count ∷ []
 begins false o = []
 
--- The replica recovers in its stored view. The restarts go up by two, so that no other journal, one behind, is ever taken for this one.
+-- The replica recovers in its stored view. The restarts go up by two, so that no other journal, one behind, is ever
+-- taken for this one.
 abbrev pub recovered : Bool → Owner → Pair → Restart
 recovered is_new o pair = record {
   pair = record { view = pair.view; restarts = pair.restarts + 2; journaled = true };
@@ -56,7 +58,8 @@ resumed o pair t = record {
   catch_up = length t.kept.log;
 }
 
--- A journal may be gone on from: it has noted a start, and the replica has adopted a log since it last began to recover.
+-- A journal may be gone on from: it has noted a start, and the replica has adopted a log since it last began to
+-- recover.
 abbrev pub may_resume : Told → Bool
 may_resume t = t.kept.whole && nat_lt 0 t.restarts
 
@@ -66,7 +69,8 @@ pub record IsOf (o : Owner) (t : Told) : Type 0 where
   pub index : t.index ≡ o.index
   pub count : t.count ≡ o.count
 
--- A pair and a journal go together: the pair says so, the last start of both is the same or the journal is one ahead, and its view isn't below
+-- A pair and a journal go together: the pair says so, the last start of both is the same or the journal is one ahead,
+-- and its view isn't below
 -- the pair's, nor past the greatest number.
 pub record GoTogether (pair : Pair) (t : Told) : Type 0 where
   pub journaled : pair.journaled ≡ true
@@ -105,7 +109,8 @@ abbrev pub owner_of : NodeConfig → Owner
 owner_of config = record { cluster = config.cluster; index = config.index; count = config.count }
 
 -- A node as a later start makes it, and what it sends.
-pub record IsRestarted {D J : Type 0} (config : NodeConfig) (finding : Finding) (strings : List (List ℕ)) (n : NodeValue D J) (out : Outputs OpValue) : Type 0 where
+pub record IsRestarted {D J : Type 0} (config : NodeConfig) (finding : Finding) (strings : List (List ℕ))
+    (n : NodeValue D J) (out : Outputs OpValue) : Type 0 where
   pub former : Pair
   pub found : finding ≡ own former
   pub start : Restart
@@ -124,8 +129,10 @@ IsStale o finding strings = (t : Told) × Tells nothing_told strings t × ((t.in
 abbrev pub IsForeign : Owner → List (List ℕ) → Type 0
 IsForeign o strings = (t : Told) × Tells nothing_told strings t × (t.cluster ≢ o.cluster)
 
--- A later start may leave, of the pair's device, what the device might have left before, or the former pair, or the one that it stores.
-abbrev pub RestartLeaves : {D : Type 0} → (D → List ℕ) → (D → List ℕ → Type 0) → Owner → D → List (List ℕ) → List ℕ → Type 0
+-- A later start may leave, of the pair's device, what the device might have left before, or the former pair, or the one
+-- that it stores.
+abbrev pub RestartLeaves : {D : Type 0} → (D → List ℕ) → (D → List ℕ → Type 0) → Owner → D → List (List ℕ) → List ℕ →
+    Type 0
 RestartLeaves seen may_leave o device strings image =
     may_leave device image
     ⊎ ((pair : Pair) × (start : Restart) × IsRestart o pair strings start × (found o.cluster (seen device) ≡ own pair)
@@ -135,9 +142,11 @@ RestartLeaves seen may_leave o device strings image =
 abbrev pub RestartNotes : {J : Type 0} → (J → List ℕ) → (J → List ℕ → Type 0) → Owner → Finding → J → List ℕ → Type 0
 RestartNotes seen may_leave o finding j image =
     ReadsAsBefore seen may_leave j image
-    ⊎ ((pair : Pair) × (start : Restart) × (finding ≡ own pair) × IsRestart o pair (recorded (seen j)) start × IsBegun (recorded (seen j)) start.notes image)
+    ⊎ ((pair : Pair) × (start : Restart) × (finding ≡ own pair) × IsRestart o pair (recorded (seen j)) start
+    × IsBegun (recorded (seen j)) start.notes image)
 
--- A pair has no next start over a journal: none of the cluster's was found, a number would be past the greatest, or the sequence of pairs is at its
+-- A pair has no next start over a journal: none of the cluster's was found, a number would be past the greatest, or the
+-- sequence of pairs is at its
 -- end.
 abbrev pub CannotRestart : ℕ → List ℕ → Type 0
 CannotRestart cluster image = (found cluster image ≡ nothing) ⊎ (2 ^ 63 ≤ sequence_of (taken_from image) + 1)

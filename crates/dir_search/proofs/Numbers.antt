@@ -30,7 +30,8 @@ past e es [] a = refl
 past e es (n ∷ ns) a =
     let lt : e.number < n = a.0 in
     let apart : nat_eq n e.number ≡ false = grind (arith, lt) in
-    ap (λ (b : Bool). put_some (cond b (Some e) (entry_at n es)) (entries_of ns (e ∷ es))) apart ∙ ap (put_some (entry_at n es)) (past e es ns a.1)
+    ap (λ (b : Bool). put_some (cond b (Some e) (entry_at n es)) (entries_of ns (e ∷ es))) apart
+    ∙ ap (put_some (entry_at n es)) (past e es ns a.1)
 
 -- The entries of the numbers of those that pass are those that pass.
 pub numbers_are : (p : Entered → Bool) (d : List Entered) → NumbersRise d → entries_of (numbers p d) d ≡ filter p d
@@ -43,30 +44,50 @@ numbers_are p (e ∷ es) r = by (p e) (numbers_are p es r.1)
     rest : entries_of (numbers p es) (e ∷ es) ≡ entries_of (numbers p es) es
     rest = past e es (numbers p es) (numbers_above e.number p es r.0)
 
-    by : (b : Bool) → entries_of (numbers p es) es ≡ filter p es → entries_of (cond b (e.number ∷ numbers p es) (numbers p es)) (e ∷ es) ≡ cond b (e ∷ filter p es) (filter p es)
-    by true ih = ap (λ (c : Bool). put_some (cond c (Some e) (entry_at e.number es)) (entries_of (numbers p es) (e ∷ es))) own ∙ ap (λ (l : List Entered). e ∷ l) (rest ∙ ih)
+    by : (b : Bool) → entries_of (numbers p es) es ≡ filter p es →
+        entries_of (cond b (e.number ∷ numbers p es) (numbers p es)) (e ∷ es) ≡ cond b (e ∷ filter p es) (filter p es)
+    by true ih = ap (λ (c : Bool). put_some (cond c (Some e) (entry_at e.number es))
+        (entries_of (numbers p es) (e ∷ es))) own ∙ ap (λ (l : List Entered). e ∷ l) (rest ∙ ih)
     by false ih = rest ∙ ih
 
 abbrev shown_as : SchemaModel → List (List ℕ) → Bool → Entered → List KeyedAttribute → SearchResultEntryValue
-shown_as s selectors types_only e b = record { object_name = printed_name s e.name; attributes = attributes_selected s selectors types_only (attributes_of b) }
+shown_as s selectors types_only e b = record {
+  object_name = printed_name s e.name;
+  attributes = attributes_selected s
+      selectors types_only (attributes_of b);
+}
 
 -- what is shown of a number's entry, by its name and its attributes
-pub shown_one : (s : SchemaModel) (selectors : List (List ℕ)) (types_only : Bool) (d : List Entered) (k : ℕ) (a : List KeyedAttribute) (x : SearchResultEntryValue) → Some a ≡ option_map (λ (e : Entered). e.entry) (entry_at k d)
-    → x ≡ record { object_name = printed_name s (name_of (entry_at k d)); attributes = attributes_selected s selectors types_only (attributes_of a) }
+pub shown_one : (s : SchemaModel) (selectors : List (List ℕ)) (types_only : Bool) (d : List Entered) (k : ℕ)
+    (a : List KeyedAttribute) (x : SearchResultEntryValue) → Some a ≡ option_map (λ (e : Entered). e.entry)
+    (entry_at k d)
+    → x ≡ record {
+      object_name = printed_name s (name_of (entry_at k d));
+      attributes = attributes_selected s selectors
+          types_only (attributes_of a);
+    }
     → x ∷ [] ≡ map (selected s selectors types_only) (map named (entries_of (k ∷ []) d))
 shown_one s selectors types_only d k a x h w = by (entry_at k d) h w
   where
-    by : (o : Option Entered) → Some a ≡ option_map (λ (e : Entered). e.entry) o → x ≡ record { object_name = printed_name s (name_of o); attributes = attributes_selected s selectors types_only (attributes_of a) }
+    by : (o : Option Entered) → Some a ≡ option_map (λ (e : Entered). e.entry) o →
+        x ≡ record {
+          object_name = printed_name s (name_of o);
+          attributes = attributes_selected s selectors types_only
+              (attributes_of a);
+        }
         → x ∷ [] ≡ map (selected s selectors types_only) (map named (put_some o []))
     by None g v = absurd (cc g)
     by (Some e) g v =
         let same : a ≡ e.entry = cc g in
-        ap (λ (y : SearchResultEntryValue). y ∷ []) (v ∙ ap (λ (b : List KeyedAttribute). shown_as s selectors types_only e b) same)
+        ap (λ (y : SearchResultEntryValue). y ∷ [])
+        (v ∙ ap (λ (b : List KeyedAttribute). shown_as s selectors types_only e b) same)
 
-pub shown_none : (s : SchemaModel) (selectors : List (List ℕ)) (types_only : Bool) (d : List Entered) (k : ℕ) → ◌≡◌ {A = Option (List KeyedAttribute)} None (option_map (λ (e : Entered). e.entry) (entry_at k d))
+pub shown_none : (s : SchemaModel) (selectors : List (List ℕ)) (types_only : Bool) (d : List Entered) (k : ℕ) →
+    ◌≡◌ {A = Option (List KeyedAttribute)} None (option_map (λ (e : Entered). e.entry) (entry_at k d))
     → [] ≡ map (selected s selectors types_only) (map named (entries_of (k ∷ []) d))
 shown_none s selectors types_only d k h = by (entry_at k d) h
   where
-    by : (o : Option Entered) → ◌≡◌ {A = Option (List KeyedAttribute)} None (option_map (λ (e : Entered). e.entry) o) → [] ≡ map (selected s selectors types_only) (map named (put_some o []))
+    by : (o : Option Entered) → ◌≡◌ {A = Option (List KeyedAttribute)} None (option_map (λ (e : Entered). e.entry)
+        o) → [] ≡ map (selected s selectors types_only) (map named (put_some o []))
     by None g = refl
     by (Some e) g = absurd (cc g)

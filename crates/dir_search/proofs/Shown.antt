@@ -23,23 +23,29 @@ past_none : (limit : ℕ) (all : List ℕ) → (0 < limit → slice_get all limi
 past_none zero all h = refl
 past_none (suc n) all h = past_some (suc n) all (omega arith) ∙ h (omega arith)
 
-module _ (a : SearchAnswer) (show : NamedEntry → SearchResultEntryValue) (limit : ℕ) (d : List Entered) (all : List ℕ) (shown : List SearchResultEntryValue) (tests : ℕ) (open_numbers still_open : List ℕ) where
+module _ (a : SearchAnswer) (show : NamedEntry → SearchResultEntryValue) (limit : ℕ) (d : List Entered) (all : List ℕ)
+    (shown : List SearchResultEntryValue) (tests : ℕ) (open_numbers still_open : List ℕ) where
   -- one entry past the limit was found
-  pub cut_short : (n : ℕ) (left : List ℕ) → SoFar show d limit all (n ∷ left) shown → 0 < limit → length shown ≡ limit → answer_view a ≡ record { code = 4; matched = []; entries = shown }
-      → a.tests ≡ tests → still_open ≡ open_numbers → tests ≡ length (filter (λ x. nat_le x n) still_open) → ShowsFound a show limit d all open_numbers
+  pub cut_short : (n : ℕ) (left : List ℕ) → SoFar show d limit all (n ∷ left) shown → 0 < limit → length shown ≡
+      limit → answer_view a ≡ record { code = 4; matched = []; entries = shown }
+      → a.tests ≡ tests → still_open ≡ open_numbers → tests ≡ length (filter (λ x. nat_le x n) still_open) →
+      ShowsFound a show limit d all open_numbers
   cut_short n left so_far pos size is told same asked = record {
     shown = is ∙ sym (stops show d limit all left shown n so_far pos size);
     counted =
         told ∙ asked ∙ ap (λ (l : List ℕ). length (filter (λ x. nat_le x n) l)) same
-        ∙ ap (λ (o : Option ℕ). length (up_to o open_numbers)) (sym (past_some limit all pos ∙ stops_at show d limit all left shown n so_far size));
+        ∙ ap (λ (o : Option ℕ). length (up_to o open_numbers))
+        (sym (past_some limit all pos ∙ stops_at show d limit all left shown n so_far size));
   }
 
   -- all that was found is shown
   pub all_shown : SoFar show d limit all [] shown → answer_view a ≡ record { code = 0; matched = []; entries = shown }
-      → a.tests ≡ tests → still_open ≡ open_numbers → tests ≡ length still_open → ShowsFound a show limit d all open_numbers
+      → a.tests ≡ tests → still_open ≡ open_numbers → tests ≡ length still_open → ShowsFound a show limit d all
+      open_numbers
   all_shown so_far is told same asked = record {
     shown = is ∙ sym (ends show d limit all shown so_far);
     counted =
         told ∙ asked ∙ ap length same
-        ∙ ap (λ (o : Option ℕ). length (up_to o open_numbers)) (sym (past_none limit all (λ p. ends_before show d limit all shown so_far p)));
+        ∙ ap (λ (o : Option ℕ). length (up_to o open_numbers))
+        (sym (past_none limit all (λ p. ends_before show d limit all shown so_far p)));
   }

@@ -29,14 +29,20 @@ in_scope d scope base = filter (λ e. is_in_scope (rdns d.suffix) scope (rdns ba
 abbrev pub matching : Directory → SearchRequestValue → List RdnModel → List NamedEntry
 matching d q base = filter (is_match d.schema q.filter) (in_scope d q.scope base)
 
--- At most so many entries are shown, if the limit isn't 0; sizeLimitExceeded (4) where there are more, else success (0).
+-- At most so many entries are shown, if the limit isn't 0; sizeLimitExceeded (4) where there are more, else success
+-- (0).
 abbrev pub limited : ℕ → List SearchResultEntryValue → Answer
 limited limit shown =
-    cond (nat_lt 0 limit && nat_lt limit (length shown)) (record { code = 4; matched = []; entries = take limit shown }) (record { code = 0; matched = []; entries = shown })
+    cond (nat_lt 0 limit && nat_lt limit (length shown)) (record {
+      code = 4;
+      matched = [];
+      entries = take limit shown;
+    }) (record { code = 0; matched = []; entries = shown })
 
 -- the root DSE, where the filter's value on it is True (RFC 4512 5.1)
 abbrev pub dse_matching : Directory → SearchRequestValue → List SearchResultEntryValue
-dse_matching d q = cond (is_true (filter_value d.schema q.filter [] (dse_attributes d.schema))) (dse_selected d q.attributes q.types_only ∷ []) []
+dse_matching d q = cond (is_true (filter_value d.schema q.filter [] (dse_attributes d.schema)))
+    (dse_selected d q.attributes q.types_only ∷ []) []
 
 -- a name of no relative names, the root's
 abbrev pub is_empty : List RdnModel → Bool
@@ -72,13 +78,16 @@ abbrev pub answer_of : Directory → SearchRequestValue → Option (List RdnMode
 answer_of d q None = refused (only 34)
 answer_of d q (Some base) = answer_at d q base
 
--- The answer of a search: protocolError (2) for the scope that is no scope of RFC 4511, invalidDNSyntax (34) for a base that can't be read, then as above.
+-- The answer of a search: protocolError (2) for the scope that is no scope of RFC 4511, invalidDNSyntax (34) for a base
+-- that can't be read, then as above.
 abbrev pub answer : Directory → SearchRequestValue → Answer
 answer d q = cond (is_subordinate q.scope) (refused (only 2)) (answer_of d q (name_of_text d.schema q.base))
 
--- How many entries there are to evaluate a search's filter on: those in scope, and the root DSE alone where that is searched.
+-- How many entries there are to evaluate a search's filter on: those in scope, and the root DSE alone where that is
+-- searched.
 abbrev pub tried_at : Directory → SearchRequestValue → List RdnModel → ℕ
-tried_at d q base = cond (is_empty base && is_base q.scope) 1 (cond (stands d base) (length (in_scope d q.scope base)) 0)
+tried_at d q base = cond (is_empty base && is_base q.scope) 1 (cond (stands d base) (length (in_scope d q.scope base))
+    0)
 
 -- none where the base is no name
 abbrev pub tried_of : Directory → SearchRequestValue → Option (List RdnModel) → ℕ

@@ -24,10 +24,12 @@ code_of_truth Undefined = 21
 abbrev pub has_under : SchemaModel → ℕ → List AttributeModel → Bool
 has_under s t e = list_any (λ a. is_under s a.kind t) e
 
--- 21 where the assertion is not in the type's syntax, noSuchAttribute (16), then what the equality item on the type is (RFC 4511 4.10)
+-- 21 where the assertion is not in the type's syntax, noSuchAttribute (16), then what the equality item on the type is
+-- (RFC 4511 4.10)
 abbrev pub code_on_type : SchemaModel → List ℕ → List AttributeModel → ℕ → ℕ
 code_on_type s assertion e t =
-    cond (not (is_of_syntax s t assertion)) 21 (cond (not (has_under s t e)) 16 (code_of_truth (item_on_type s (equal assertion) t e)))
+    cond (not (is_of_syntax s t assertion)) 21 (cond (not (has_under s t e)) 16
+    (code_of_truth (item_on_type s (equal assertion) t e)))
 
 -- undefinedAttributeType (17), then as above
 abbrev pub code_on : SchemaModel → List ℕ → List AttributeModel → Option ℕ → ℕ

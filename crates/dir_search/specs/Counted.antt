@@ -34,8 +34,10 @@ abbrev pub up_to_entry : Option NamedEntry → List Entered → List Entered
 up_to_entry None es = es
 up_to_entry (Some m) es = filter (λ e. nat_le e.number m.number) es
 
--- A search at a base evaluated its filter on just the entries in scope that plans of the filter leave open, up to the first past the size limit.
-pub record IsCountAtBase (ix : List Kinds) (d : Directory) (q : SearchRequestValue) (base : List RdnModel) (tests : ℕ) : Type 0 where
+-- A search at a base evaluated its filter on just the entries in scope that plans of the filter leave open, up to the
+-- first past the size limit.
+pub record IsCountAtBase (ix : List Kinds) (d : Directory) (q : SearchRequestValue) (base : List RdnModel)
+    (tests : ℕ) : Type 0 where
   pub keyed_entries : List Entered
   pub are : map named keyed_entries ≡ d.entries
   pub keyed : AreKeyedBy d.schema keyed_entries

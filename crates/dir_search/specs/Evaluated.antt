@@ -16,9 +16,11 @@ use Rattle.dir_search.specs.Answer.{is_match, in_scope, matching, is_empty, is_b
 -- no more than each of these filters that the indexes decide is True on, among these entries
 abbrev pub IsWithinParts : SchemaModel → List Kinds → Trees → List NamedEntry → ℕ → Type 0
 IsWithinParts s ix no_trees es tests = Unit {0}
-IsWithinParts s ix (tree t ts) es tests = (is_decided s ix t ≡ true → tests ≤ length (filter (is_match s t) es)) × IsWithinParts s ix ts es tests
+IsWithinParts s ix (tree t ts) es tests = (is_decided s ix t ≡ true → tests ≤ length (filter (is_match s t) es))
+    × IsWithinParts s ix ts es tests
 
--- A filter was evaluated on few of these entries: on none, where the indexes decide it; for an `and`, on at most as many as each part that they
+-- A filter was evaluated on few of these entries: on none, where the indexes decide it; for an `and`, on at most as
+-- many as each part that they
 -- decide is True on; and on at most as many as hold each run of three octets that it asks for.
 pub record IsFewOf (s : SchemaModel) (ix : List Kinds) (f : Tree) (es : List NamedEntry) (tests : ℕ) : Type 0 where
   pub within : tests ≤ length es
@@ -30,9 +32,11 @@ pub record IsFewOf (s : SchemaModel) (ix : List Kinds) (f : Tree) (es : List Nam
 abbrev pub those_up_to : ℕ → List NamedEntry → List NamedEntry
 those_up_to m es = filter (λ e. nat_le e.number m) es
 
--- A search at a base evaluated its filter on few of the entries in scope; and where more of them match than the size limit, on few of those up to
+-- A search at a base evaluated its filter on few of the entries in scope; and where more of them match than the size
+-- limit, on few of those up to
 -- the first past it.
-pub record IsFewAtBase (ix : List Kinds) (d : Directory) (q : SearchRequestValue) (base : List RdnModel) (tests : ℕ) : Type 0 where
+pub record IsFewAtBase (ix : List Kinds) (d : Directory) (q : SearchRequestValue) (base : List RdnModel) (tests : ℕ) :
+    Type 0 where
   pub few : IsFewOf d.schema ix q.filter (in_scope d q.scope base) tests
   pub few_up_to : (e : NamedEntry) → 0 < q.size_limit → slice_get (matching d q base) q.size_limit ≡ Some e
       → IsFewOf d.schema ix q.filter (those_up_to e.number (in_scope d q.scope base)) tests

@@ -31,7 +31,11 @@ naming_contexts d = record { description = codes "namingContexts"; values = prin
 
 -- the controls that are recognised (RFC 4512 5.1.3)
 abbrev pub supported_control : PartialAttributeValue
-supported_control = record { description = codes "supportedControl"; values = codes "2.25.20120101" ∷ codes "2.25.20120102" ∷ [] }
+supported_control = record {
+  description = codes "supportedControl";
+  values = codes "2.25.20120101" ∷ codes
+      "2.25.20120102" ∷ [];
+}
 
 -- the extended operations that are recognised (RFC 4512 5.1.4)
 abbrev pub supported_extension : PartialAttributeValue
@@ -47,7 +51,8 @@ without_values types_only a = record { description = a.description; values = con
 
 -- an operational attribute is shown where a selector is its name, whatever the case (RFC 4511 4.5.1.8)
 abbrev pub where_named : List (List ℕ) → Bool → PartialAttributeValue → List PartialAttributeValue
-where_named selectors types_only a = cond (list_any (str_eq_ignore_ascii_case a.description) selectors) (without_values types_only a ∷ []) []
+where_named selectors types_only a = cond (list_any (str_eq_ignore_ascii_case a.description) selectors)
+    (without_values types_only a ∷ []) []
 
 -- What is shown of the root DSE: no name, the selected user attributes, then the operational ones that are named.
 abbrev pub dse_selected : Directory → List (List ℕ) → Bool → SearchResultEntryValue

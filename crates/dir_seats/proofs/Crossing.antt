@@ -1,4 +1,5 @@
--- Versions of the directory, and the seats that read them, may cross threads, as rules for `search`: whoever hands seats to threads names them.
+-- Versions of the directory, and the seats that read them, may cross threads, as rules for `search`: whoever hands
+-- seats to threads names them.
 use denote.RattleType.{RattleType}
 use denote.Builtin.{bool}
 use denote.Struct.Declared
@@ -45,38 +46,44 @@ global_send = search (crosses, sendable) depth 20
 
 reader_send :
     IsSend
-    (Reader.the_field Shown.the_row (Tuple (bool ∷ Executed.the_row ∷ [])) Published.the_row Global.the_row PublishedRule.ghosts GlobalRule.ghosts).row
+    (Reader.the_field Shown.the_row (Tuple (bool ∷ Executed.the_row ∷ [])) Published.the_row Global.the_row
+    PublishedRule.ghosts GlobalRule.ghosts).row
 reader_send = search (shown_sync, reader.the_field_send, crosses, sendable) depth 60 fits 20000
 
 inside_send : (N : RattleType) → IsSend (Inside.the_row N)
 inside_send N =
     recorded_send (Inside.the_field N).row _ _ (Inside.the_type N).to_one
-    (struct_send (Declared.shape (Inside.the_type N)) (reader_send, (plain_send _ _ _ _ _, (phantom.the_field_send N, tt))))
+    (struct_send (Declared.shape (Inside.the_type N))
+    (reader_send, (plain_send _ _ _ _ _, (phantom.the_field_send N, tt))))
 
 pub seat_send : (N : RattleType) → IsSend (Seat.the_row N)
 seat_send N = view_send (Inside.the_row N) _ _ _ _ (inside_send N)
 
 writer_send :
     IsSend
-    (Writer.the_field Shown.the_row Shown.the_row (Tuple (bool ∷ Executed.the_row ∷ [])) Published.the_row Global.the_row Executed.the_row ShownRule.ghosts PublishedRule.ghosts GlobalRule.ghosts).row
+    (Writer.the_field Shown.the_row Shown.the_row (Tuple (bool ∷ Executed.the_row ∷ [])) Published.the_row
+    Global.the_row Executed.the_row ShownRule.ghosts PublishedRule.ghosts GlobalRule.ghosts).row
 writer_send = search (shown_send, shown_sync, writer.the_field_send, crosses, sendable) depth 60 fits 20000
 
 publisher_inside_send : (N R : RattleType) → IsSend R → IsSend (PublisherInside.the_row N R)
 publisher_inside_send N R s =
     recorded_send (PublisherInside.the_field N R).row _ _ (PublisherInside.the_type N R).to_one
-    (struct_send (Declared.shape (PublisherInside.the_type N R)) (global_send, (writer_send, (plain_send _ _ _ _ _, (s, (phantom.the_field_send N, tt))))))
+    (struct_send (Declared.shape (PublisherInside.the_type N R))
+    (global_send, (writer_send, (plain_send _ _ _ _ _, (s, (phantom.the_field_send N, tt))))))
 
 pub publisher_send : (N R : RattleType) → IsSend R → IsSend (Publisher.the_row N R)
 publisher_send N R s = view_send (PublisherInside.the_row N R) _ _ _ _ (publisher_inside_send N R s)
 
 factory_send :
     IsSend
-    (Factory.the_field Shown.the_row (Tuple (bool ∷ Executed.the_row ∷ [])) Published.the_row Global.the_row PublishedRule.ghosts GlobalRule.ghosts).row
+    (Factory.the_field Shown.the_row (Tuple (bool ∷ Executed.the_row ∷ [])) Published.the_row Global.the_row
+    PublishedRule.ghosts GlobalRule.ghosts).row
 factory_send = search (shown_sync, factory.the_field_send, crosses, sendable) depth 60 fits 20000
 
 factory_sync :
     IsSync
-    (Factory.the_field Shown.the_row (Tuple (bool ∷ Executed.the_row ∷ [])) Published.the_row Global.the_row PublishedRule.ghosts GlobalRule.ghosts).row
+    (Factory.the_field Shown.the_row (Tuple (bool ∷ Executed.the_row ∷ [])) Published.the_row Global.the_row
+    PublishedRule.ghosts GlobalRule.ghosts).row
 factory_sync = search (shown_sync, factory.the_field_sync, crosses, sendable) depth 60 fits 20000
 
 pub teller_send : (N : RattleType) → IsSend (Teller.the_row N)

@@ -18,4 +18,5 @@ NumbersAreRising (e ∷ es) = NumbersAbove e.number es × NumbersAreRising es
 
 -- The entries of the directory of a list of updates stand in rising order of number.
 abbrev pub EntriesRise : Type 0
-EntriesRise = (s : SchemaModel) (suffix : List RdnModel) (ops : List OpValue) → NumbersAreRising (directory_of s suffix ops).entries
+EntriesRise = (s : SchemaModel) (suffix : List RdnModel) (ops : List OpValue) →
+    NumbersAreRising (directory_of s suffix ops).entries

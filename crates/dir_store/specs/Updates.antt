@@ -32,13 +32,16 @@ abbrev pub place_asked : Directory → List RdnModel → Result (List RdnModel) 
 place_asked d name = cond (name_eq (rdns name) (rdns d.suffix)) (Ok name) (place_under d name)
 
 -- an entry of this name: what its attributes are refused for
-abbrev pub addition_of : SchemaModel → List PartialAttributeValue → List TypeAndValue → List RdnModel → Result PlacedModel ReplyModel
-addition_of s given rdn whole = then (with_reply (attributes_asked s rdn given)) (λ attributes. Ok (record { name = whole; attributes = attributes }))
+abbrev pub addition_of : SchemaModel → List PartialAttributeValue → List TypeAndValue → List RdnModel →
+    Result PlacedModel ReplyModel
+addition_of s given rdn whole = then (with_reply (attributes_asked s rdn given))
+    (λ attributes. Ok (record { name = whole; attributes = attributes }))
 
 -- an add of this name: entryAlreadyExists (68), 32 where it has no superior, then as above
 abbrev pub addition_at : Directory → List PartialAttributeValue → List RdnModel → Result PlacedModel ReplyModel
 addition_at d given name =
-    refuse (is_some (entry_named (rdns name) d.entries)) (only 68) (then (place_asked d name) (addition_of d.schema given (own_rdn name)))
+    refuse (is_some (entry_named (rdns name) d.entries)) (only 68)
+    (then (place_asked d name) (addition_of d.schema given (own_rdn name)))
 
 -- what an add asks for (RFC 4511 4.7): 34, then as above
 abbrev pub addition : Directory → AddRequestValue → Result PlacedModel ReplyModel
@@ -46,15 +49,18 @@ addition d a = then (name_asked d.schema a.entry) (addition_at d a.attributes)
 
 -- The entries after an add: one more at the end, under the update's number (RFC 4511 4.7).
 abbrev pub added : Directory → ℕ → AddRequestValue → Result (List NamedEntry) ReplyModel
-added d number a = then (addition d a) (λ p. Ok (d.entries ++ record { number = number; name = p.name; attributes = p.attributes } ∷ []))
+added d number a = then (addition d a)
+    (λ p. Ok (d.entries ++ record { number = number; name = p.name; attributes = p.attributes } ∷ []))
 
 -- the number of the entry that a delete takes out (RFC 4511 4.8): 32, notAllowedOnNonLeaf (66)
 abbrev pub leaf_asked : Directory → List RdnModel → Result ℕ ReplyModel
-leaf_asked d name = then (entry_asked d name) (λ e. refuse (has_subordinate (rdns name) d.entries) (only 66) (Ok e.number))
+leaf_asked d name = then (entry_asked d name) (λ e. refuse (has_subordinate (rdns name) d.entries) (only 66)
+    (Ok e.number))
 
 -- The entries after a delete: 34, then as above; one less (RFC 4511 4.8).
 abbrev pub deleted : Directory → List ℕ → Result (List NamedEntry) ReplyModel
-deleted d text = then (name_asked d.schema text) (λ name. then (leaf_asked d name) (λ k. Ok (without_entry k d.entries)))
+deleted d text = then (name_asked d.schema text) (λ name. then (leaf_asked d name)
+    (λ k. Ok (without_entry k d.entries)))
 
 -- a number, and the attributes that its entry gets
 pub record KeptModel : Type 0 where
@@ -64,11 +70,13 @@ pub record KeptModel : Type 0 where
 -- what changes of an entry ask for: what they are refused for
 abbrev pub change_of : SchemaModel → List ChangeValue → NamedEntry → Result KeptModel ReplyModel
 change_of s changes e =
-    then (with_reply (attributes_changed s (own_rdn e.name) changes e.attributes)) (λ attributes. Ok (record { number = e.number; attributes = attributes }))
+    then (with_reply (attributes_changed s (own_rdn e.name) changes e.attributes))
+    (λ attributes. Ok (record { number = e.number; attributes = attributes }))
 
 -- what a modify asks for (RFC 4511 4.6): 34, 32, then as above
 abbrev pub change_asked : Directory → ModifyRequestValue → Result KeptModel ReplyModel
-change_asked d m = then (name_asked d.schema m.object) (λ name. then (entry_asked d name) (change_of d.schema m.changes))
+change_asked d m = then (name_asked d.schema m.object) (λ name. then (entry_asked d name)
+    (change_of d.schema m.changes))
 
 -- The entries after a modify: one has other attributes (RFC 4511 4.6).
 abbrev pub modified : Directory → ModifyRequestValue → Result (List NamedEntry) ReplyModel
@@ -123,7 +131,8 @@ moved_entry s delete_old e rdn whole =
 -- a move of an entry to this name: 68 where another entry has it, then as above
 abbrev pub move_to : Directory → Bool → NamedEntry → RdnModel → List RdnModel → Result MoveModel ReplyModel
 move_to d delete_old e rdn whole =
-    refuse (is_other_than e.number (entry_named (rdns whole) d.entries)) (only 68) (moved_entry d.schema delete_old e rdn whole)
+    refuse (is_other_than e.number (entry_named (rdns whole) d.entries)) (only 68) (moved_entry d.schema delete_old e
+    rdn whole)
 
 -- a move of an entry: unwillingToPerform (53), 32 of the new superior, then as above
 abbrev pub move_under : Directory → Bool → NamedEntry → RdnModel → Option (List RdnModel) → Result MoveModel ReplyModel
@@ -140,12 +149,14 @@ pub record MoveNamesModel : Type 0 where
 -- the names of a modifyDN: 34 of its three in order (RFC 4511 4.9)
 abbrev pub move_names : SchemaModel → ModifyDnRequestValue → Result MoveNamesModel ReplyModel
 move_names s r =
-    then (name_asked s r.entry) (λ name. then (rdn_asked s r.newrdn) (λ rdn. then (superior_asked s r.new_superior) (λ above.
+    then (name_asked s r.entry) (λ name. then (rdn_asked s r.newrdn) (λ rdn. then (superior_asked s r.new_superior)
+    (λ above.
     Ok (record { name = name; rdn = rdn; above = above }))))
 
 -- what a modifyDN asks for (RFC 4511 4.9): 34 as above, 32, then as above
 abbrev pub move_asked : Directory → ModifyDnRequestValue → Result MoveModel ReplyModel
-move_asked d r = then (move_names d.schema r) (λ n. then (entry_asked d n.name) (λ e. move_under d r.deleteoldrdn e n.rdn n.above))
+move_asked d r = then (move_names d.schema r) (λ n. then (entry_asked d n.name) (λ e. move_under d r.deleteoldrdn e
+    n.rdn n.above))
 
 -- The entries after a modifyDN: the names of one entry and of those below it are others (RFC 4511 4.9).
 abbrev pub renamed_all : Directory → ModifyDnRequestValue → Result (List NamedEntry) ReplyModel
@@ -196,6 +207,7 @@ replies_after d number (op ∷ ops) =
 abbrev pub empty_directory : SchemaModel → List RdnModel → Directory
 empty_directory s suffix = record { schema = s; suffix = suffix; entries = [] }
 
--- The replies to a list of updates, numbered from 1, under a schema and a suffix: the reply at a place is that of the update of this number.
+-- The replies to a list of updates, numbered from 1, under a schema and a suffix: the reply at a place is that of the
+-- update of this number.
 abbrev pub replies_of : SchemaModel → List RdnModel → List OpValue → List ReplyModel
 replies_of s suffix ops = replies_after (empty_directory s suffix) 0 ops

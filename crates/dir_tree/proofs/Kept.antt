@@ -30,7 +30,8 @@ apart_eq a b h = grind (arith, h)
 pub is_eq-nat : (k n : ℕ) → is_eq (nat_cmp k n) ≡ nat_eq k n
 is_eq-nat k n = by (nat_lt k n) (nat_eq k n) refl refl
   where
-    by : (a b : Bool) → nat_lt k n ≡ a → nat_eq k n ≡ b → is_eq (cond a Ordering.Less (cond b Ordering.Equal Ordering.Greater)) ≡ b
+    by : (a b : Bool) → nat_lt k n ≡ a → nat_eq k n ≡ b →
+        is_eq (cond a Ordering.Less (cond b Ordering.Equal Ordering.Greater)) ≡ b
     by true true f g = absurd (apart f g)
       where
         apart : nat_lt k n ≡ true → nat_eq k n ≡ true → ⊥
@@ -51,11 +52,13 @@ module _ {X : Type 0} where
   abbrev pub under : ℕ → List (ℕ × X) → Option X
   under k es = lookup (is_at (nat_cmp k)) es
 
-  pub under-cons : (j : ℕ) (e : ℕ × X) (es : List (ℕ × X)) → under j (e ∷ es) ≡ cond (nat_eq j e.0) (Some e.1) (under j es)
+  pub under-cons : (j : ℕ) (e : ℕ × X) (es : List (ℕ × X)) → under j (e ∷ es) ≡ cond (nat_eq j e.0) (Some e.1)
+      (under j es)
   under-cons j e es = ap (λ (b : Bool). cond b (Some e.1) (under j es)) (is_eq-nat j e.0)
 
   -- another value under a number
-  pub under-put : (j k : ℕ) (v : X) (es : List (ℕ × X)) → under j (insert_entry nat_cmp es k v) ≡ cond (nat_eq j k) (Some v) (under j es)
+  pub under-put : (j k : ℕ) (v : X) (es : List (ℕ × X)) → under j (insert_entry nat_cmp es k v) ≡ cond (nat_eq j k)
+      (Some v) (under j es)
   under-put j k v [] = under-cons j (k, v) []
   under-put j k v (e ∷ es) = by (nat_lt k e.0) (nat_eq k e.0) refl refl (under-put j k v es)
     where
@@ -63,7 +66,8 @@ module _ {X : Type 0} where
       met s true = refl
       met s false = refl
 
-      past : (o : Option X) (a b : Bool) → nat_eq j k ≡ a → nat_eq j e.0 ≡ b → nat_eq k e.0 ≡ false → o ≡ cond a (Some v) (under j es) → cond b (Some e.1) o ≡ cond a (Some v) (cond b (Some e.1) (under j es))
+      past : (o : Option X) (a b : Bool) → nat_eq j k ≡ a → nat_eq j e.0 ≡ b → nat_eq k e.0 ≡ false →
+          o ≡ cond a (Some v) (under j es) → cond b (Some e.1) o ≡ cond a (Some v) (cond b (Some e.1) (under j es))
       past o true true f g u h = absurd (never f g u)
         where
           never : nat_eq j k ≡ true → nat_eq j e.0 ≡ true → nat_eq k e.0 ≡ false → ⊥
@@ -72,13 +76,17 @@ module _ {X : Type 0} where
       past o false true f g u h = refl
       past o false false f g u h = h
 
-      by : (a b : Bool) → nat_lt k e.0 ≡ a → nat_eq k e.0 ≡ b → under j (insert_entry nat_cmp es k v) ≡ cond (nat_eq j k) (Some v) (under j es)
-          → under j (match_ordering (cond a Ordering.Less (cond b Ordering.Equal Ordering.Greater)) ((k, v) ∷ e ∷ es) ((e.0, v) ∷ es) (e ∷ insert_entry nat_cmp es k v)) ≡ cond (nat_eq j k) (Some v) (under j (e ∷ es))
+      by : (a b : Bool) → nat_lt k e.0 ≡ a → nat_eq k e.0 ≡ b → under j (insert_entry nat_cmp es k v) ≡
+          cond (nat_eq j k) (Some v) (under j es)
+          → under j (match_ordering (cond a Ordering.Less (cond b Ordering.Equal Ordering.Greater)) ((k, v) ∷ e ∷ es)
+          ((e.0, v) ∷ es) (e ∷ insert_entry nat_cmp es k v)) ≡ cond (nat_eq j k) (Some v) (under j (e ∷ es))
       by true b f g ih = under-cons j (k, v) (e ∷ es)
       by false true f g ih =
           let s : k ≡ e.0 = same_number k e.0 g in
-          under-cons j (e.0, v) es ∙ ap (λ (n : ℕ). cond (nat_eq j n) (Some v) (under j es)) (sym s) ∙ met s (nat_eq j k)
-          ∙ ap (λ (n : ℕ). cond (nat_eq j k) (Some v) (cond (nat_eq j n) (Some e.1) (under j es))) s ∙ ap (λ (o : Option X). cond (nat_eq j k) (Some v) o) (sym (under-cons j e es))
+          under-cons j (e.0, v) es ∙ ap (λ (n : ℕ). cond (nat_eq j n) (Some v) (under j es)) (sym s)
+          ∙ met s (nat_eq j k)
+          ∙ ap (λ (n : ℕ). cond (nat_eq j k) (Some v) (cond (nat_eq j n) (Some e.1) (under j es))) s
+          ∙ ap (λ (o : Option X). cond (nat_eq j k) (Some v) o) (sym (under-cons j e es))
       by false false f g ih =
           under-cons j e (insert_entry nat_cmp es k v)
           ∙ past (under j (insert_entry nat_cmp es k v)) (nat_eq j k) (nat_eq j e.0) refl refl g ih
@@ -87,10 +95,12 @@ module _ {X : Type 0} where
   -- a number before all has nothing
   pub under-ahead : (k : ℕ) (es : List (ℕ × X)) → IsAhead nat_cmp k es → under k es ≡ None
   under-ahead k [] h = refl
-  under-ahead k (e ∷ es) h = under-cons k e es ∙ ap (λ (b : Bool). cond b (Some e.1) (under k es)) (less_apart k e.0 h.0) ∙ under-ahead k es h.1
+  under-ahead k (e ∷ es) h = under-cons k e es ∙ ap (λ (b : Bool). cond b (Some e.1) (under k es))
+      (less_apart k e.0 h.0) ∙ under-ahead k es h.1
 
   -- a number without a value
-  pub under-out : (j k : ℕ) (es : List (ℕ × X)) → Rises nat_cmp es → under j (remove_entry (is_at (nat_cmp k)) es) ≡ cond (nat_eq j k) None (under j es)
+  pub under-out : (j k : ℕ) (es : List (ℕ × X)) → Rises nat_cmp es → under j (remove_entry (is_at (nat_cmp k)) es) ≡
+      cond (nat_eq j k) None (under j es)
   under-out j k [] h = by (nat_eq j k)
     where
       none : Option X
@@ -99,13 +109,16 @@ module _ {X : Type 0} where
       by : (b : Bool) → none ≡ cond b none none
       by true = refl
       by false = refl
-  under-out j k (e ∷ es) h = ap (λ (b : Bool). under j (cond b es (e ∷ remove_entry (is_at (nat_cmp k)) es))) (is_eq-nat k e.0) ∙ by (nat_eq k e.0) refl (under-out j k es h.1)
+  under-out j k (e ∷ es) h = ap (λ (b : Bool). under j (cond b es (e ∷ remove_entry (is_at (nat_cmp k)) es)))
+      (is_eq-nat k e.0) ∙ by (nat_eq k e.0) refl (under-out j k es h.1)
     where
       first : k ≡ e.0 → (b : Bool) → nat_eq j k ≡ b → under j es ≡ cond b None (cond b (Some e.1) (under j es))
-      first s true f = let js : j ≡ e.0 = same_number j k f ∙ s in ap (λ (n : ℕ). under n es) js ∙ under-ahead e.0 es h.0
+      first s true f = let js : j ≡ e.0 = same_number j k f ∙ s in ap (λ (n : ℕ). under n es) js
+          ∙ under-ahead e.0 es h.0
       first s false f = refl
 
-      past : (o : Option X) (a b : Bool) → nat_eq j k ≡ a → nat_eq j e.0 ≡ b → nat_eq k e.0 ≡ false → o ≡ cond a None (under j es) → cond b (Some e.1) o ≡ cond a None (cond b (Some e.1) (under j es))
+      past : (o : Option X) (a b : Bool) → nat_eq j k ≡ a → nat_eq j e.0 ≡ b → nat_eq k e.0 ≡ false →
+          o ≡ cond a None (under j es) → cond b (Some e.1) o ≡ cond a None (cond b (Some e.1) (under j es))
       past o true true f g u h = absurd (never f g u)
         where
           never : nat_eq j k ≡ true → nat_eq j e.0 ≡ true → nat_eq k e.0 ≡ false → ⊥
@@ -114,13 +127,17 @@ module _ {X : Type 0} where
       past o false true f g u h = refl
       past o false false f g u h = h
 
-      by : (b : Bool) → nat_eq k e.0 ≡ b → under j (remove_entry (is_at (nat_cmp k)) es) ≡ cond (nat_eq j k) None (under j es)
+      by : (b : Bool) → nat_eq k e.0 ≡ b → under j (remove_entry (is_at (nat_cmp k)) es) ≡ cond (nat_eq j k) None
+          (under j es)
           → under j (cond b es (e ∷ remove_entry (is_at (nat_cmp k)) es)) ≡ cond (nat_eq j k) None (under j (e ∷ es))
       by true f ih =
           let s : k ≡ e.0 = same_number k e.0 f in
-          first s (nat_eq j k) refl ∙ ap (λ (n : ℕ). cond (nat_eq j k) None (cond (nat_eq j n) (Some e.1) (under j es))) s ∙ ap (λ (o : Option X). cond (nat_eq j k) None o) (sym (under-cons j e es))
+          first s (nat_eq j k) refl
+          ∙ ap (λ (n : ℕ). cond (nat_eq j k) None (cond (nat_eq j n) (Some e.1) (under j es))) s
+          ∙ ap (λ (o : Option X). cond (nat_eq j k) None o) (sym (under-cons j e es))
       by false f ih =
-          under-cons j e (remove_entry (is_at (nat_cmp k)) es) ∙ past (under j (remove_entry (is_at (nat_cmp k)) es)) (nat_eq j k) (nat_eq j e.0) refl refl f ih
+          under-cons j e (remove_entry (is_at (nat_cmp k)) es) ∙ past (under j (remove_entry (is_at (nat_cmp k)) es))
+          (nat_eq j k) (nat_eq j e.0) refl refl f ih
           ∙ ap (λ (o : Option X). cond (nat_eq j k) None o) (sym (under-cons j e es))
 
 -- ---- sets
@@ -149,30 +166,36 @@ has-put j n [] = refl
 has-put j n (x ∷ s) = by (nat_lt n x) (nat_eq n x) refl (has-put j n s)
   where
     by : (a b : Bool) → nat_eq n x ≡ b → has_number j (insert_key nat_cmp s n) ≡ (nat_eq j n || has_number j s)
-        → has_number j (match_ordering (cond a Ordering.Less (cond b Ordering.Equal Ordering.Greater)) (n ∷ x ∷ s) (x ∷ s) (x ∷ insert_key nat_cmp s n)) ≡ (nat_eq j n || (nat_eq j x || has_number j s))
+        → has_number j (match_ordering (cond a Ordering.Less (cond b Ordering.Equal Ordering.Greater)) (n ∷ x ∷ s)
+        (x ∷ s) (x ∷ insert_key nat_cmp s n)) ≡ (nat_eq j n || (nat_eq j x || has_number j s))
     by true b f ih = refl
-    by false true f ih = or_in (nat_eq j x) (nat_eq j n) (has_number j s) (ap (λ (k : ℕ). nat_eq j k) (sym (same_number n x f)))
+    by false true f ih = or_in (nat_eq j x) (nat_eq j n) (has_number j s)
+        (ap (λ (k : ℕ). nat_eq j k) (sym (same_number n x f)))
     by false false f ih = or_turn (nat_eq j x) (nat_eq j n) (has_number j s) (has_number j (insert_key nat_cmp s n)) ih
 
 -- a number before all of a set isn't in it
 pub has-ahead : (k : ℕ) (s : List ℕ) → AllByRecursion (λ y. k < y) s → has_number k s ≡ false
 has-ahead k [] h = refl
-has-ahead k (x ∷ s) h = let lt : k < x = h.0 in let off : nat_eq k x ≡ false = grind arith in ap (λ (b : Bool). b || has_number k s) off ∙ has-ahead k s h.1
+has-ahead k (x ∷ s) h = let lt : k < x = h.0 in let off : nat_eq k x ≡ false =
+    grind arith in ap (λ (b : Bool). b || has_number k s) off ∙ has-ahead k s h.1
 
 -- a set without a number
-pub has-out : (j n : ℕ) (s : List ℕ) → IsRising s → has_number j (remove_key (is_at (nat_cmp n)) s) ≡ (not (nat_eq j n) && has_number j s)
+pub has-out : (j n : ℕ) (s : List ℕ) → IsRising s → has_number j (remove_key (is_at (nat_cmp n)) s) ≡
+    (not (nat_eq j n) && has_number j s)
 has-out j n [] h = by (nat_eq j n)
   where
     by : (b : Bool) → false ≡ (not b && false)
     by true = refl
     by false = refl
-has-out j n (x ∷ s) h = ap (λ (b : Bool). has_number j (cond b s (x ∷ remove_key (is_at (nat_cmp n)) s))) (is_eq-nat n x) ∙ by (nat_eq n x) refl (has-out j n s h.1)
+has-out j n (x ∷ s) h = ap (λ (b : Bool). has_number j (cond b s (x ∷ remove_key (is_at (nat_cmp n)) s)))
+    (is_eq-nat n x) ∙ by (nat_eq n x) refl (has-out j n s h.1)
   where
     first : (b : Bool) → nat_eq j x ≡ b → has_number j s ≡ (not b && (b || has_number j s))
     first true f = ap (λ (k : ℕ). has_number k s) (same_number j x f) ∙ has-ahead x s h.0
     first false f = refl
 
-    past : (a b c d : Bool) → nat_eq j x ≡ a → nat_eq j n ≡ b → nat_eq n x ≡ false → d ≡ (not b && c) → (a || d) ≡ (not b && (a || c))
+    past : (a b c d : Bool) → nat_eq j x ≡ a → nat_eq j n ≡ b → nat_eq n x ≡ false → d ≡ (not b && c) →
+        (a || d) ≡ (not b && (a || c))
     past true true c d f g u h = absurd (never f g u)
       where
         never : nat_eq j x ≡ true → nat_eq j n ≡ true → nat_eq n x ≡ false → ⊥
@@ -181,9 +204,13 @@ has-out j n (x ∷ s) h = ap (λ (b : Bool). has_number j (cond b s (x ∷ remov
     past false true c d f g u h = h
     past false false c d f g u h = h
 
-    by : (b : Bool) → nat_eq n x ≡ b → has_number j (remove_key (is_at (nat_cmp n)) s) ≡ (not (nat_eq j n) && has_number j s) → has_number j (cond b s (x ∷ remove_key (is_at (nat_cmp n)) s)) ≡ (not (nat_eq j n) && (nat_eq j x || has_number j s))
-    by true f ih = first (nat_eq j x) refl ∙ ap (λ (k : ℕ). not (nat_eq j k) && (nat_eq j x || has_number j s)) (sym (same_number n x f))
-    by false f ih = past (nat_eq j x) (nat_eq j n) (has_number j s) (has_number j (remove_key (is_at (nat_cmp n)) s)) refl refl f ih
+    by : (b : Bool) → nat_eq n x ≡ b → has_number j (remove_key (is_at (nat_cmp n)) s) ≡ (not (nat_eq j n)
+        && has_number j s) → has_number j (cond b s (x ∷ remove_key (is_at (nat_cmp n)) s)) ≡ (not (nat_eq j n)
+        && (nat_eq j x || has_number j s))
+    by true f ih = first (nat_eq j x) refl ∙ ap (λ (k : ℕ). not (nat_eq j k) && (nat_eq j x || has_number j s))
+        (sym (same_number n x f))
+    by false f ih = past (nat_eq j x) (nat_eq j n) (has_number j s) (has_number j (remove_key (is_at (nat_cmp n)) s))
+        refl refl f ih
 
 -- what a rising list has is not below its first
 has-below : (j x : ℕ) (s : List ℕ) → AllByRecursion (λ y. x < y) s → has_number j s ≡ true → x < j
@@ -219,18 +246,23 @@ same_set (x ∷ xs) (y ∷ ys) h g e = by (nat_lt x y) (nat_lt y x) refl refl (s
     off a b l = grind arith
 
     never : (a b : ℕ) (s : List ℕ) → a < b → AllByRecursion (λ z. b < z) s → has_number a (b ∷ s) ≡ true → ⊥
-    never a b s l r t = let lt : b < a = has-below a b s r (or_split (nat_eq a b) (has_number a s) t (off a b l)) in omega arith
+    never a b s l r t = let lt : b < a = has-below a b s r (or_split (nat_eq a b) (has_number a s) t (off a b l))
+        in omega arith
 
     tail : x ≡ y → (j : ℕ) → has_number j xs ≡ has_number j ys
     tail s j = either (nat_eq j x) refl (e j)
       where
-        either : (b : Bool) → nat_eq j x ≡ b → (nat_eq j x || has_number j xs) ≡ (nat_eq j y || has_number j ys) → has_number j xs ≡ has_number j ys
+        either : (b : Bool) → nat_eq j x ≡ b → (nat_eq j x || has_number j xs) ≡ (nat_eq j y || has_number j ys) →
+            has_number j xs ≡ has_number j ys
         either true f t =
             let jx : j ≡ x = same_number j x f in
-            ap (λ (k : ℕ). has_number k xs) jx ∙ has-ahead x xs h.0 ∙ sym (ap (λ (k : ℕ). has_number k ys) (jx ∙ s) ∙ has-ahead y ys g.0)
-        either false f t = sym (ap (λ (b : Bool). b || has_number j xs) f) ∙ t ∙ ap (λ (k : ℕ). nat_eq j k || has_number j ys) (sym s) ∙ ap (λ (b : Bool). b || has_number j ys) f
+            ap (λ (k : ℕ). has_number k xs) jx ∙ has-ahead x xs h.0 ∙ sym (ap (λ (k : ℕ). has_number k ys) (jx ∙ s)
+            ∙ has-ahead y ys g.0)
+        either false f t = sym (ap (λ (b : Bool). b || has_number j xs) f) ∙ t
+            ∙ ap (λ (k : ℕ). nat_eq j k || has_number j ys) (sym s) ∙ ap (λ (b : Bool). b || has_number j ys) f
 
-    by : (a b : Bool) → nat_lt x y ≡ a → nat_lt y x ≡ b → (((j : ℕ) → has_number j xs ≡ has_number j ys) → xs ≡ ys) → (x ∷ xs) ≡ (y ∷ ys)
+    by : (a b : Bool) → nat_lt x y ≡ a → nat_lt y x ≡ b → (((j : ℕ) → has_number j xs ≡ has_number j ys) → xs ≡ ys) →
+        (x ∷ xs) ≡ (y ∷ ys)
     by true b f k ih = absurd (never x y ys (let l : x < y = grind (arith, f) in l) g.0 on_left)
     by false true f k ih = absurd (never y x xs (let l : y < x = grind (arith, k) in l) h.0 on_right)
     by false false f k ih =

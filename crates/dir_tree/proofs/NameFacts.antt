@@ -20,7 +20,9 @@ and_true a b e f = rw (e, f) refl
 
 own_keys : (xs : List TypeAndKey) → are_same_keys xs xs ≡ true
 own_keys [] = refl
-own_keys (x ∷ xs) = and_true (nat_eq x.kind x.kind && bytes_eq x.key x.key) (are_same_keys xs xs) (and_true (nat_eq x.kind x.kind) (bytes_eq x.key x.key) (eq-eqb x.kind x.kind refl) ((bytes_eq-Decides x.key x.key).1 refl)) (own_keys xs)
+own_keys (x ∷ xs) = and_true (nat_eq x.kind x.kind && bytes_eq x.key x.key) (are_same_keys xs xs)
+    (and_true (nat_eq x.kind x.kind) (bytes_eq x.key x.key) (eq-eqb x.kind x.kind refl)
+    ((bytes_eq-Decides x.key x.key).1 refl)) (own_keys xs)
 
 -- lists of types with keys are told apart by their test
 pub part_decides : (a b : List TypeAndKey) → Decides (are_same_keys a b) (a ≡ b)
@@ -30,7 +32,11 @@ abbrev of_keys : List TypeAndKey → RdnModel
 of_keys k = record { keys = k; spelling = [] }
 
 keys_equiv : IsEquivalence are_same_keys
-keys_equiv = record { refl = λ x. rdn_equiv.refl (of_keys x); symm = λ x y. rdn_equiv.symm (of_keys x) (of_keys y); congr = λ x y z h. rdn_equiv.congr (of_keys x) (of_keys y) (of_keys z) h }
+keys_equiv = record {
+  refl = λ x. rdn_equiv.refl (of_keys x);
+  symm = λ x y. rdn_equiv.symm (of_keys x) (of_keys y);
+  congr = λ x y z h. rdn_equiv.congr (of_keys x) (of_keys y) (of_keys z) h;
+}
 
 -- names are told apart by an equivalence
 pub names : IsEquivalence name_eq
@@ -50,7 +56,8 @@ pub begins-take : (n : NameKey) (i : ℕ) → begins (take i n) n ≡ true
 begins-take [] zero = refl
 begins-take [] (suc i) = refl
 begins-take (y ∷ ys) zero = refl
-begins-take (y ∷ ys) (suc i) = ap (λ (b : Bool). b && begins (take i ys) ys) ((part_decides y y).1 refl) ∙ begins-take ys i
+begins-take (y ∷ ys) (suc i) = ap (λ (b : Bool). b && begins (take i ys) ys) ((part_decides y y).1 refl)
+    ∙ begins-take ys i
 
 -- what begins is a front
 pub begins-is : (q n : NameKey) → begins q n ≡ true → q ≡ take (length q) n
@@ -58,7 +65,9 @@ begins-is [] n h = refl
 begins-is (x ∷ xs) [] h = absurd (cc h)
 begins-is (x ∷ xs) (y ∷ ys) h = both x y xs ys (are_same_keys x y) refl (begins xs ys) refl h (begins-is xs ys)
   where
-    both : (x y : List TypeAndKey) (xs ys : NameKey) → (a : Bool) → a ≡ are_same_keys x y → (b : Bool) → b ≡ begins xs ys → (a && b) ≡ true → (begins xs ys ≡ true → xs ≡ take (length xs) ys) → (x ∷ xs) ≡ take (suc (length xs)) (y ∷ ys)
+    both : (x y : List TypeAndKey) (xs ys : NameKey) → (a : Bool) → a ≡ are_same_keys x y → (b : Bool) →
+        b ≡ begins xs ys → (a && b) ≡ true → (begins xs ys ≡ true → xs ≡ take (length xs) ys) →
+        (x ∷ xs) ≡ take (suc (length xs)) (y ∷ ys)
     both x y xs ys true e b f g rest =
         let one : x ≡ y = (part_decides x y).0 (sym e) in
         let more : xs ≡ take (length xs) ys = rest (sym f ∙ g) in
@@ -86,19 +95,22 @@ begins-through (x ∷ xs) (y ∷ ys) (z ∷ zs) h g =
     let e = both (are_same_keys x y) (begins xs ys) h in
     let f = both (are_same_keys y z) (begins ys zs) g in
     let one : x ≡ y = (part_decides x y).0 e.0 in
-    and_true (are_same_keys x z) (begins xs zs) (ap (λ (k : List TypeAndKey). are_same_keys k z) one ∙ f.0) (begins-through xs ys zs e.1 f.1)
+    and_true (are_same_keys x z) (begins xs zs) (ap (λ (k : List TypeAndKey). are_same_keys k z) one ∙ f.0)
+    (begins-through xs ys zs e.1 f.1)
 
 pub begins-long : (p q : NameKey) → begins p q ≡ true → length p ≤ length q
 begins-long [] q h = omega arith
 begins-long (x ∷ xs) [] h = absurd (cc h)
-begins-long (x ∷ xs) (y ∷ ys) h = let l : length xs ≤ length ys = begins-long xs ys (both (are_same_keys x y) (begins xs ys) h).1 in omega arith
+begins-long (x ∷ xs) (y ∷ ys) h = let l : length xs ≤ length ys = begins-long xs ys
+    (both (are_same_keys x y) (begins xs ys) h).1 in omega arith
 
 pub above-long : (q : NameKey) → length (above q) ≡ length q - 1
 above-long q = length-take-le (length q - 1) q (omega arith)
 
 -- a beginning of the same length is the same name
 pub begins-all : (p q : NameKey) → begins p q ≡ true → length q ≤ length p → p ≡ q
-begins-all p q h l = begins-is p q h ∙ ap (λ (k : ℕ). take k q) (let g : length p ≤ length q = begins-long p q h in let e : length p ≡ length q = omega arith in e) ∙ take-length q
+begins-all p q h l = begins-is p q h ∙ ap (λ (k : ℕ). take k q) (let g : length p ≤ length q = begins-long p q h
+    in let e : length p ≡ length q = omega arith in e) ∙ take-length q
 
 pub or_else : (a b : Bool) → (a || b) ≡ true → a ≡ false → b ≡ true
 or_else true b h e = absurd (cc e)
@@ -106,7 +118,8 @@ or_else false b h e = h
 
 -- the name above a name, from its relative names
 pub above_rdns : (n : List RdnModel) (i : ℕ) → i ≡ length n - 1 → rdns (take i n) ≡ above (rdns n)
-above_rdns n i h = ap (λ (k : ℕ). rdns (take k n)) h ∙ sym (take-map (λ (r : RdnModel). r.keys) (length n - 1) n) ∙ ap (λ (k : ℕ). take (k - 1) (rdns n)) (sym (length-map n (λ (r : RdnModel). r.keys)))
+above_rdns n i h = ap (λ (k : ℕ). rdns (take k n)) h ∙ sym (take-map (λ (r : RdnModel). r.keys) (length n - 1) n)
+    ∙ ap (λ (k : ℕ). take (k - 1) (rdns n)) (sym (length-map n (λ (r : RdnModel). r.keys)))
 
 -- what a name begins is the name and what stands behind it
 pub split : (o q : NameKey) → begins o q ≡ true → q ≡ o ++ drop (length o) q
@@ -121,7 +134,8 @@ split (x ∷ xs) (y ∷ ys) h =
 
 pub begins-joined : (n r : NameKey) → begins n (n ++ r) ≡ true
 begins-joined [] r = refl
-begins-joined (x ∷ xs) r = and_true (are_same_keys x x) (begins xs (xs ++ r)) ((part_decides x x).1 refl) (begins-joined xs r)
+begins-joined (x ∷ xs) r = and_true (are_same_keys x x) (begins xs (xs ++ r)) ((part_decides x x).1 refl)
+    (begins-joined xs r)
 
 pub behind-joined : (n r : NameKey) → drop (length n) (n ++ r) ≡ r
 behind-joined [] r = refl
@@ -158,23 +172,33 @@ front_long a b v t h =
     omega arith
 
 -- what comes behind a front, by keys
-pub behind_keys : (front name : List RdnModel) → rdns (drop (length front) name) ≡ drop (length (rdns front)) (rdns name)
-behind_keys front name = sym (drop-map (λ (r : RdnModel). r.keys) (length front) name) ∙ ap (λ (k : ℕ). drop k (rdns name)) (sym (length-map front (λ (r : RdnModel). r.keys)))
+pub behind_keys : (front name : List RdnModel) → rdns (drop (length front) name) ≡ drop (length (rdns front))
+    (rdns name)
+behind_keys front name = sym (drop-map (λ (r : RdnModel). r.keys) (length front) name)
+    ∙ ap (λ (k : ℕ). drop k (rdns name)) (sym (length-map front (λ (r : RdnModel). r.keys)))
 
 pub behind_some : (b : Bool) (x y : List RdnModel) → Some x ≡ cond b (Some y) None → (b ≡ true) × (x ≡ y)
 behind_some true x y h = (refl, cc h)
 behind_some false x y h = absurd (cc h)
 
-pub behind_is : (f s name path : List RdnModel) → f ≡ s → Some path ≡ cond (begins (rdns f) (rdns name)) (Some (drop (length f) name)) None → (begins (rdns s) (rdns name) ≡ true) × (rdns path ≡ drop (length (rdns s)) (rdns name))
+pub behind_is : (f s name path : List RdnModel) → f ≡ s → Some path ≡ cond (begins (rdns f) (rdns name))
+    (Some (drop (length f) name)) None → (begins (rdns s) (rdns name) ≡ true)
+    × (rdns path ≡ drop (length (rdns s)) (rdns name))
 behind_is f s name path e h =
     let t = behind_some (begins (rdns f) (rdns name)) path (drop (length f) name) h in (
       ap (λ (x : List RdnModel). begins (rdns x) (rdns name)) (sym e) ∙ t.0,
       ap rdns t.1 ∙ behind_keys f name ∙ ap (λ (x : List RdnModel). drop (length (rdns x)) (rdns name)) e,
     )
 
-pub behind_on : (front name : List RdnModel) (v : Bool) → v ≡ true → v ≡ is_front front name → Some (take (length name - length front) (drop (length front) name)) ≡ cond (begins (rdns front) (rdns name)) (Some (drop (length front) name)) None
+pub behind_on : (front name : List RdnModel) (v : Bool) → v ≡ true → v ≡ is_front front name →
+    Some (take (length name - length front) (drop (length front) name)) ≡ cond (begins (rdns front) (rdns name))
+    (Some (drop (length front) name)) None
 behind_on front name v t h =
-    ap (λ (l : List RdnModel). Some l) (take_rest name (length front)) ∙ sym (ap (λ (b : Bool). cond b (Some (drop (length front) name)) None) (sym (front_begins front name) ∙ sym h ∙ t))
+    ap (λ (l : List RdnModel). Some l) (take_rest name (length front))
+    ∙ sym (ap (λ (b : Bool). cond b (Some (drop (length front) name)) None) (sym (front_begins front name) ∙ sym h
+    ∙ t))
 
-pub behind_off : (front name : List RdnModel) (v : Bool) → v ≡ false → v ≡ is_front front name → None ≡ cond (begins (rdns front) (rdns name)) (Some (drop (length front) name)) None
-behind_off front name v t h = sym (ap (λ (b : Bool). cond b (Some (drop (length front) name)) None) (sym (front_begins front name) ∙ sym h ∙ t))
+pub behind_off : (front name : List RdnModel) (v : Bool) → v ≡ false → v ≡ is_front front name →
+    None ≡ cond (begins (rdns front) (rdns name)) (Some (drop (length front) name)) None
+behind_off front name v t h = sym (ap (λ (b : Bool). cond b (Some (drop (length front) name)) None)
+    (sym (front_begins front name) ∙ sym h ∙ t))

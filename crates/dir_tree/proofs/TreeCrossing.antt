@@ -38,10 +38,30 @@ entry_sync : IsSync SharedEntry.the_field.row
 entry_sync = search (entry_crosses, map_crosses, crosses, sendable) depth 60 fits 20000
 
 standing_send : IsSend Standing.the_field.row
-standing_send = search (rdn_send, rdn_sync, name_send, name_sync, entry_send, entry_sync, map_crosses, crosses, sendable) depth 60 fits 20000
+standing_send = search (
+  rdn_send,
+  rdn_sync,
+  name_send,
+  name_sync,
+  entry_send,
+  entry_sync,
+  map_crosses,
+  crosses,
+  sendable,
+) depth 60 fits 20000
 
 standing_sync : IsSync Standing.the_field.row
-standing_sync = search (rdn_send, rdn_sync, name_send, name_sync, entry_send, entry_sync, map_crosses, crosses, sendable) depth 60 fits 20000
+standing_sync = search (
+  rdn_send,
+  rdn_sync,
+  name_send,
+  name_sync,
+  entry_send,
+  entry_sync,
+  map_crosses,
+  crosses,
+  sendable,
+) depth 60 fits 20000
 
 below_send : IsSend Below.the_field.row
 below_send = search (digested_send, digested_sync, map_crosses, crosses, sendable) depth 60 fits 20000
@@ -56,10 +76,34 @@ suffix_sync : IsSync Suffix.the_field.row
 suffix_sync = search (name_send, name_sync, entry_crosses, map_crosses, crosses, sendable) depth 60 fits 20000
 
 roots_send : IsSend Roots.the_field.row
-roots_send = search (rdn_send, rdn_sync, standing_send, standing_sync, below_send, below_sync, suffix_send, suffix_sync, map_crosses, crosses, sendable) depth 60 fits 20000
+roots_send = search (
+  rdn_send,
+  rdn_sync,
+  standing_send,
+  standing_sync,
+  below_send,
+  below_sync,
+  suffix_send,
+  suffix_sync,
+  map_crosses,
+  crosses,
+  sendable,
+) depth 60 fits 20000
 
 roots_sync : IsSync Roots.the_field.row
-roots_sync = search (rdn_send, rdn_sync, standing_send, standing_sync, below_send, below_sync, suffix_send, suffix_sync, map_crosses, crosses, sendable) depth 60 fits 20000
+roots_sync = search (
+  rdn_send,
+  rdn_sync,
+  standing_send,
+  standing_sync,
+  below_send,
+  below_sync,
+  suffix_send,
+  suffix_sync,
+  map_crosses,
+  crosses,
+  sendable,
+) depth 60 fits 20000
 
 pub tree_send : IsSend Tree.the_field.row
 tree_send = search (roots_send, roots_sync, map_crosses, crosses, sendable) depth 60 fits 20000

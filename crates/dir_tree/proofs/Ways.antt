@@ -16,7 +16,11 @@ pub record IsUnder (o : Option Place) (a : ℕ) : Type 0 where
 pub under-above : (o : Option Place) (a : ℕ) → above_in o ≡ Some a → IsUnder o a
 under-above None a h = absurd (cc h)
 under-above (Some (Root name)) a h = absurd (cc h)
-under-above (Some (Under b rdn)) a h = record { rdn = rdn; is = let e : b ≡ a = cc h in ap (λ (n : ℕ). Some (Under n rdn)) e }
+under-above (Some (Under b rdn)) a h = record {
+  rdn = rdn;
+  is = let e : b ≡ a =
+      cc h in ap (λ (n : ℕ). Some (Under n rdn)) e;
+}
 
 pub under-one : (b a : ℕ) (s r : RdnModel) → Some (Under b s) ≡ Some (Under a r) → (b ≡ a) × (s ≡ r)
 under-one b a s r h = (cc h, cc h)
@@ -29,7 +33,8 @@ name-enough p (suc i) zero k h g = absurd (cc g)
 name-enough p (suc i) (suc j) k h g = by (p k) (λ a. name-enough p i j a) h g
   where
     by : (o : Option Place) → ((a : ℕ) → ends i p a ≡ true → ends j p a ≡ true → name_up i p a ≡ name_up j p a)
-        → option_map_or (ends i p) (above_in o) true ≡ true → option_map_or (ends j p) (above_in o) true ≡ true → name_in (name_up i p) o ≡ name_in (name_up j p) o
+        → option_map_or (ends i p) (above_in o) true ≡ true → option_map_or (ends j p) (above_in o) true ≡ true →
+        name_in (name_up i p) o ≡ name_in (name_up j p) o
     by None rest h g = refl
     by (Some (Root name)) rest h g = refl
     by (Some (Under a r)) rest h g = ap (λ (l : List RdnModel). l ++ r ∷ []) (rest a h g)
@@ -50,7 +55,8 @@ ends-more p zero j k l h = absurd (cc h)
 ends-more p (suc i) zero k l h = absurd (omega arith)
 ends-more p (suc i) (suc j) k l h = by (above_in (p k)) (λ a. ends-more p i j a (omega arith)) h
   where
-    by : (o : Option ℕ) → ((a : ℕ) → ends i p a ≡ true → ends j p a ≡ true) → option_map_or (ends i p) o true ≡ true → option_map_or (ends j p) o true ≡ true
+    by : (o : Option ℕ) → ((a : ℕ) → ends i p a ≡ true → ends j p a ≡ true) → option_map_or (ends i p) o true ≡ true →
+        option_map_or (ends j p) o true ≡ true
     by None rest h = refl
     by (Some a) rest h = rest a h
 
@@ -63,29 +69,36 @@ pub record IsApart (q : ℕ → Bool) (p p' : Places) : Type 0 where
 module _ (q : ℕ → Bool) (p p' : Places) (t : IsApart q p p') where
   pub ends-apart : (i j : ℕ) → q j ≡ true → ends i p' j ≡ ends i p j
   ends-apart zero j h = refl
-  ends-apart (suc i) j h = ap (λ (o : Option Place). option_map_or (ends i p') (above_in o) true) (t.same j h) ∙ by (above_in (p j)) refl (ends-apart i)
+  ends-apart (suc i) j h = ap (λ (o : Option Place). option_map_or (ends i p') (above_in o) true) (t.same j h)
+      ∙ by (above_in (p j)) refl (ends-apart i)
     where
-      by : (o : Option ℕ) → above_in (p j) ≡ o → ((a : ℕ) → q a ≡ true → ends i p' a ≡ ends i p a) → option_map_or (ends i p') o true ≡ option_map_or (ends i p) o true
+      by : (o : Option ℕ) → above_in (p j) ≡ o → ((a : ℕ) → q a ≡ true → ends i p' a ≡ ends i p a) →
+          option_map_or (ends i p') o true ≡ option_map_or (ends i p) o true
       by None e rest = refl
       by (Some a) e rest = rest a (t.closed j a h e)
 
   pub over-apart : (x i j : ℕ) → q j ≡ true → is_over i p' x j ≡ is_over i p x j
   over-apart x zero j h = refl
-  over-apart x (suc i) j h = ap (λ (o : Option Place). nat_eq x j || option_map_or (is_over i p' x) (above_in o) false) (t.same j h) ∙ by (above_in (p j)) refl (over-apart x i)
+  over-apart x (suc i) j h = ap (λ (o : Option Place). nat_eq x j || option_map_or (is_over i p' x) (above_in o)
+      false) (t.same j h) ∙ by (above_in (p j)) refl (over-apart x i)
     where
       by : (o : Option ℕ) → above_in (p j) ≡ o → ((a : ℕ) → q a ≡ true → is_over i p' x a ≡ is_over i p x a)
-          → (nat_eq x j || option_map_or (is_over i p' x) o false) ≡ (nat_eq x j || option_map_or (is_over i p x) o false)
+          → (nat_eq x j || option_map_or (is_over i p' x) o false) ≡ (nat_eq x j || option_map_or (is_over i p x) o
+          false)
       by None e rest = refl
       by (Some a) e rest = ap (λ (b : Bool). nat_eq x j || b) (rest a (t.closed j a h e))
 
   pub name-apart : (i j : ℕ) → q j ≡ true → name_up i p' j ≡ name_up i p j
   name-apart zero j h = refl
-  name-apart (suc i) j h = ap (λ (o : Option Place). name_in (name_up i p') o) (t.same j h) ∙ by (p j) refl (name-apart i)
+  name-apart (suc i) j h = ap (λ (o : Option Place). name_in (name_up i p') o) (t.same j h)
+      ∙ by (p j) refl (name-apart i)
     where
-      by : (o : Option Place) → p j ≡ o → ((a : ℕ) → q a ≡ true → name_up i p' a ≡ name_up i p a) → name_in (name_up i p') o ≡ name_in (name_up i p) o
+      by : (o : Option Place) → p j ≡ o → ((a : ℕ) → q a ≡ true → name_up i p' a ≡ name_up i p a) →
+          name_in (name_up i p') o ≡ name_in (name_up i p) o
       by None e rest = refl
       by (Some (Root n)) e rest = refl
-      by (Some (Under a r)) e rest = ap (λ (l : List RdnModel). l ++ r ∷ []) (rest a (t.closed j a h (ap (λ (o : Option Place). above_in o) e)))
+      by (Some (Under a r)) e rest = ap (λ (l : List RdnModel). l ++ r ∷ [])
+          (rest a (t.closed j a h (ap (λ (o : Option Place). above_in o) e)))
 
 -- ---- where each way ends within i steps, a bound is no matter
 
@@ -97,7 +110,8 @@ module _ (i : ℕ) (p : Places) (all : (k : ℕ) → ends i p k ≡ true) where
   name-step k = name-enough p i (suc i) k (all k) (ends-more p i (suc i) k (omega arith) (all k))
 
   pub over-top : (x k : ℕ) → above_in (p k) ≡ None → is_over i p x k ≡ nat_eq x k
-  over-top x k h = over-step x k ∙ ap (λ (o : Option ℕ). nat_eq x k || option_map_or (is_over i p x) o false) h ∙ or-false (nat_eq x k)
+  over-top x k h = over-step x k ∙ ap (λ (o : Option ℕ). nat_eq x k || option_map_or (is_over i p x) o false) h
+      ∙ or-false (nat_eq x k)
     where
       or-false : (b : Bool) → (b || false) ≡ b
       or-false true = refl
@@ -116,13 +130,15 @@ module _ (i : ℕ) (p : Places) (all : (k : ℕ) → ends i p k ≡ true) where
   over-own k = over-step k k ∙ ap (λ (b : Bool). b || option_map_or (is_over i p k) (above_in (p k)) false) (own_eq k)
 
   -- what holds of the first number of each way, and of a number where it holds of the one above, holds of all
-  pub climb : (C : ℕ → Type 0) → ((k : ℕ) → above_in (p k) ≡ None → C k) → ((k a : ℕ) → above_in (p k) ≡ Some a → C a → C k) → (k : ℕ) → C k
+  pub climb : (C : ℕ → Type 0) → ((k : ℕ) → above_in (p k) ≡ None → C k) → ((k a : ℕ) → above_in (p k) ≡ Some a →
+      C a → C k) → (k : ℕ) → C k
   climb C top step k = go i k (all k)
     where
       go : (j k : ℕ) → ends j p k ≡ true → C k
       go zero k h = absurd (cc h)
       go (suc j) k h = by (above_in (p k)) refl h (go j)
         where
-          by : (o : Option ℕ) → above_in (p k) ≡ o → option_map_or (ends j p) o true ≡ true → ((k : ℕ) → ends j p k ≡ true → C k) → C k
+          by : (o : Option ℕ) → above_in (p k) ≡ o → option_map_or (ends j p) o true ≡ true →
+              ((k : ℕ) → ends j p k ≡ true → C k) → C k
           by None e f rest = top k e
           by (Some a) e f rest = step k a e (rest a f)

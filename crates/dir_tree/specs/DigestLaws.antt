@@ -55,5 +55,6 @@ digested_ties a b =
     none false = refl
 
     by : (s : Bool) → are_same_keys a.keys b.keys ≡ s → s ≡ (nat_eq (digest_of a.keys) (digest_of b.keys) && s)
-    by true e = sym (ap (λ (v : Bool). v && true) (eq-eqb (digest_of a.keys) (digest_of b.keys) (ap digest_of (keys_same a.keys b.keys e))))
+    by true e = sym (ap (λ (v : Bool). v && true) (eq-eqb (digest_of a.keys) (digest_of b.keys)
+        (ap digest_of (keys_same a.keys b.keys e))))
     by false e = none (nat_eq (digest_of a.keys) (digest_of b.keys))

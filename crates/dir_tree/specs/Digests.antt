@@ -1,4 +1,5 @@
--- The order in which relative names below an entry stand in a map: by their digests, and those of one digest by their types and keys.
+-- The order in which relative names below an entry stand in a map: by their digests, and those of one digest by their
+-- types and keys.
 use Rattle.std.specs.declared.cmp.Ordering.{Ordering}
 use Rattle.std.specs.Ordering.{nat_cmp, on, then_cmp}
 use Rattle.dir_entry.specs.ldap_dn.Names.{RdnModel}

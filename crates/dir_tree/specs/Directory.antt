@@ -83,16 +83,24 @@ unnumbered k (e ∷ es) = cond (nat_eq k e.number) es (e ∷ unnumbered k es)
 -- the directory with other attributes in the entry of a number
 abbrev pub replaced : ℕ → List KeyedAttribute → List Entered → List Entered
 replaced k entry [] = []
-replaced k entry (e ∷ es) = cond (nat_eq k e.number) (record { number = e.number; name = e.name; entry = entry } ∷ es) (e ∷ replaced k entry es)
+replaced k entry (e ∷ es) = cond (nat_eq k e.number) (record { number = e.number; name = e.name; entry = entry } ∷ es)
+    (e ∷ replaced k entry es)
 
--- a name once the entries at or below a name stand at or below another: the new name, and behind it what stood behind the old
+-- a name once the entries at or below a name stand at or below another: the new name, and behind it what stood behind
+-- the old
 abbrev pub name_after : NameKey → List RdnModel → List RdnModel → List RdnModel
 name_after old new name = cond (begins old (rdns name)) (new ++ drop (length old) name) name
 
--- The directory once an entry has another name and other attributes: each name that begins with the old one begins with the
+-- The directory once an entry has another name and other attributes: each name that begins with the old one begins with
+-- the
 -- new one in its place, and all else stays (RFC 4511 4.9).
 abbrev pub moved : NameKey → List RdnModel → List KeyedAttribute → List Entered → List Entered
-moved old new entry d = map (λ e. record { number = e.number; name = name_after old new e.name; entry = cond (name_eq old (rdns e.name)) entry e.entry }) d
+moved old new entry d = map (λ e. record {
+  number = e.number;
+  name = name_after old new e.name;
+  entry =
+      cond (name_eq old (rdns e.name)) entry e.entry;
+}) d
 
 -- the name right above a name
 abbrev pub above : NameKey → NameKey
@@ -122,7 +130,8 @@ abbrev pub NamesDiffer : List Entered → Type 0
 NamesDiffer [] = Unit {0}
 NamesDiffer (e ∷ es) = (find (rdns e.name) es ≡ None) × NamesDiffer es
 
--- What every directory keeps: numbers rise, names differ, each name begins with the suffix, and each entry but the suffix's has
+-- What every directory keeps: numbers rise, names differ, each name begins with the suffix, and each entry but the
+-- suffix's has
 -- an entry right above it (RFC 4512 2.1).
 pub record IsDirectory (suffix : NameKey) (d : List Entered) : Type 0 where
   pub rise : NumbersRise d

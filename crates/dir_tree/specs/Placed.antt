@@ -19,4 +19,5 @@ IsSpelled suffix d = (q : NameKey) (e : Entered) → find q d ≡ Some e → nam
 
 -- an entry's name and one relative name behind it are placed as they stand
 abbrev pub IsPlacedAsSpelled : NameKey → List Entered → Type 0
-IsPlacedAsSpelled suffix d = (q : NameKey) (e : Entered) (r : RdnModel) → find q d ≡ Some e → name_placed suffix (e.name ++ r ∷ []) d ≡ e.name ++ r ∷ []
+IsPlacedAsSpelled suffix d = (q : NameKey) (e : Entered) (r : RdnModel) → find q d ≡ Some e →
+    name_placed suffix (e.name ++ r ∷ []) d ≡ e.name ++ r ∷ []

@@ -11,14 +11,23 @@ use Rattle.dird_commands.specs.private.Replies.{text_of}
 use Rattle.dird_commands.specs.private.Played.{AreLines, IsShownOf, IsPlayedText}
 
 -- what is shown when the lines of an input are played
-pub shown_of : (input : Option (List ℕ)) (s : SchemaModel) (suffix : List RdnModel) (lines : List (List ℕ)) (shown : List Shown) → suffix ≡ name_of s (codes "dc=example,dc=com")
-    → IfSome input (λ text. AreLines text lines) → IsPlayed s suffix lines shown → IfSome input (λ text. IsShownOf s text shown)
+pub shown_of : (input : Option (List ℕ)) (s : SchemaModel) (suffix : List RdnModel) (lines : List (List ℕ))
+    (shown : List Shown) → suffix ≡ name_of s (codes "dc=example,dc=com")
+    → IfSome input (λ text. AreLines text lines) → IsPlayed s suffix lines shown →
+    IfSome input (λ text. IsShownOf s text shown)
 shown_of None s suffix lines shown e read played = tt
 shown_of (Some text) s suffix lines shown e read played =
-    let P : List RdnModel → Type 0 = λ n. IsPlayed s n lines shown in record { lines = lines; are_lines = read; played = subst P e played }
+    let P : List RdnModel → Type 0 = λ n. IsPlayed s n lines shown in record {
+      lines = lines;
+      are_lines =
+          read;
+      played = subst P e played;
+    }
 
 -- what is written turns the input into all that is shown
-pub turned : (input output grown : Option (List ℕ)) (s : SchemaModel) (shown : List Shown) → IfSome input (λ text. IsShownOf s text shown)
+pub turned : (input output grown : Option (List ℕ)) (s : SchemaModel) (shown : List Shown) →
+    IfSome input (λ text. IsShownOf s text shown)
     → Appends output grown (flat_map text_of shown) → Turns (IsPlayedText s) input output grown
 turned None output grown s shown played written = tt
-turned (Some text) output grown s shown played written = (flat_map text_of shown, record { shown = shown; played = played; whole = refl }, written)
+turned (Some text) output grown s shown played written =
+    (flat_map text_of shown, record { shown = shown; played = played; whole = refl }, written)

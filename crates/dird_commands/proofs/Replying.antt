@@ -7,7 +7,8 @@ use Rattle.std.proofs.lemmas.Grind.{flat_map-append}
 use Rattle.dird_commands.specs.private.Replies.{answer_line}
 
 -- a text that is this one
-pub text_as : {T E : Type 0} (r : Result T E) (a b : Option (List ℕ)) (xs ys : List ℕ) → xs ≡ ys → OnOk r (Appends a b xs) → OnOk r (Appends a b ys)
+pub text_as : {T E : Type 0} (r : Result T E) (a b : Option (List ℕ)) (xs ys : List ℕ) → xs ≡ ys →
+    OnOk r (Appends a b xs) → OnOk r (Appends a b ys)
 text_as r a b xs ys e h = let P : List ℕ → Type 0 = λ z. OnOk r (Appends a b z) in subst P e h
 
 -- a line of three parts, and one of ten
@@ -15,15 +16,18 @@ pub three_parts : (a x b end : List ℕ) → a ++ (x ++ (b ++ end)) ≡ (a ++ x 
 three_parts a x b end = simp append_assoc
 
 pub ten_parts : (a x b y d z e v f w end : List ℕ)
-    → a ++ (x ++ (b ++ (y ++ (d ++ (z ++ (e ++ (v ++ (f ++ (w ++ end))))))))) ≡ (a ++ x ++ b ++ y ++ d ++ z ++ e ++ v ++ f ++ w) ++ end
+    → a ++ (x ++ (b ++ (y ++ (d ++ (z ++ (e ++ (v ++ (f ++ (w ++ end))))))))) ≡
+    (a ++ x ++ b ++ y ++ d ++ z ++ e ++ v ++ f ++ w) ++ end
 ten_parts a x b y d z e v f w end = simp append_assoc
 
-flat_map-map : {A B : Type 0} (view : A → B) (f : B → List ℕ) (es : List A) → flat_map (λ e. f (view e)) es ≡ flat_map f (map view es)
+flat_map-map : {A B : Type 0} (view : A → B) (f : B → List ℕ) (es : List A) → flat_map (λ e. f (view e)) es ≡
+    flat_map f (map view es)
 flat_map-map view f [] = refl
 flat_map-map view f (e ∷ es) = ap (λ ys. f (view e) ++ ys) (flat_map-map view f es)
 
 -- the names of all entries behind the line of their answer
-pub answer_done : {A B : Type 0} (at n code : ℕ) (view : A → B) (f : B → List ℕ) (es all : List A) (i : ℕ) (a m b : Option (List ℕ)) → n ≡ code → es ≡ all → length es ≤ i
+pub answer_done : {A B : Type 0} (at n code : ℕ) (view : A → B) (f : B → List ℕ) (es all : List A) (i : ℕ)
+    (a m b : Option (List ℕ)) → n ≡ code → es ≡ all → length es ≤ i
     → Appends a m (answer_line at n (length es)) → Appends m b (flat_map (λ e. f (view e)) (take i es))
     → Appends a b (answer_line at code (length (map view all)) ++ flat_map f (map view all))
 answer_done at n code view f es all i a m b same is end p q =
@@ -36,8 +40,10 @@ answer_done at n code view f es all i a m b same is end p q =
     (Appends-trans a m b (answer_line at n (length es)) (flat_map (λ e. f (view e)) (take i es)) p q)
 
 -- one more thing that is written
-pub one_more : {A B : Type 0} (view : A → B) (f : B → List ℕ) (xs : List A) (i : ℕ) (x : A) (a m b : Option (List ℕ)) → i < length xs → x ≡ get_or xs i x
-    → Appends a m (flat_map f (map view (take i xs))) → Appends m b (f (view x)) → Appends a b (flat_map f (map view (take (i + 1) xs)))
+pub one_more : {A B : Type 0} (view : A → B) (f : B → List ℕ) (xs : List A) (i : ℕ) (x : A)
+    (a m b : Option (List ℕ)) → i < length xs → x ≡ get_or xs i x
+    → Appends a m (flat_map f (map view (take i xs))) → Appends m b (f (view x)) →
+    Appends a b (flat_map f (map view (take (i + 1) xs)))
 one_more view f xs i x a m b lt is p q =
     subst (Appends a b)
     (sym

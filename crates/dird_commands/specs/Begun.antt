@@ -44,7 +44,8 @@ abbrev pub number_at_first : Bool → ℕ
 number_at_first false = 0
 number_at_first true = 6
 
--- What its sessions share: the manager is cn=admin,dc=example,dc=com with the password secret; the session is the first at replica 0.
+-- What its sessions share: the manager is cn=admin,dc=example,dc=com with the password secret; the session is the first
+-- at replica 0.
 abbrev pub config_of : SchemaModel → ConfigValue
 config_of s = record {
   schema = s;
@@ -55,18 +56,28 @@ config_of s = record {
 
 -- the directory at first, which no client has asked for an update yet
 abbrev pub local_at_first : SchemaModel → Bool → LocalValue
-local_at_first s with_sample = record { directory = directory_at_first s with_sample; number = number_at_first with_sample; latest = map.empty }
+local_at_first s with_sample = record {
+  directory = directory_at_first s with_sample;
+  number = number_at_first
+      with_sample;
+  latest = map.empty;
+}
 
 -- An input is answered by one session over a local directory, from its beginning on.
-abbrev pub AnswersFrom : SchemaModel → Bool → Option (List ℕ) → Option (List ℕ) → Option (List ℕ) → Option (List ℕ) → SessionEnd → Type 0
+abbrev pub AnswersFrom : SchemaModel → Bool → Option (List ℕ) → Option (List ℕ) → Option (List ℕ) → Option (List ℕ) →
+    SessionEnd → Type 0
 AnswersFrom s with_sample input left output grown end =
     (after : LocalValue) × Answers allows (config_of s) (local_at_first s with_sample) after input left output grown end
 
--- A session over a local directory that ends by a fault has written nothing, since it did not begin; or it has written what such a session over lines
+-- A session over a local directory that ends by a fault has written nothing, since it did not begin; or it has written
+-- what such a session over lines
 -- has written by then.
-abbrev pub IsCutFrom : ConfigValue → LocalValue → LocalValue → Option (List ℕ) → Option (List ℕ) → Option (List ℕ) → Fault → Type 0
-IsCutFrom c d e input output grown fault = (grown ≡ output) ⊎ ((error : LineFault) × (fault ≡ line_fault error) × Fails allows c d e input output grown error)
+abbrev pub IsCutFrom : ConfigValue → LocalValue → LocalValue → Option (List ℕ) → Option (List ℕ) → Option (List ℕ) →
+    Fault → Type 0
+IsCutFrom c d e input output grown fault = (grown ≡ output) ⊎ ((error : LineFault) × (fault ≡ line_fault error)
+    × Fails allows c d e input output grown error)
 
 -- the same from its beginning on
 abbrev pub FailsFrom : SchemaModel → Bool → Option (List ℕ) → Option (List ℕ) → Option (List ℕ) → Fault → Type 0
-FailsFrom s with_sample input output grown fault = (after : LocalValue) × IsCutFrom (config_of s) (local_at_first s with_sample) after input output grown fault
+FailsFrom s with_sample input output grown fault = (after : LocalValue) × IsCutFrom (config_of s)
+    (local_at_first s with_sample) after input output grown fault

@@ -12,30 +12,36 @@ abbrev pub add_of : List ℕ → List (List ℕ × List ℕ) → AddRequestValue
 add_of name pairs = record { entry = name; attributes = map one_value pairs }
 
 unfoldable pub example : AddRequestValue
-example = add_of (codes "dc=example,dc=com") ((codes "objectClass", codes "domain") ∷ (codes "dc", codes "example") ∷ [])
+example = add_of (codes "dc=example,dc=com") ((codes "objectClass", codes "domain") ∷ (codes "dc", codes "example") ∷
+    [])
 
 unfoldable pub items_unit : AddRequestValue
-items_unit = add_of (codes "ou=Items,dc=example,dc=com") ((codes "objectClass", codes "organizationalUnit") ∷ (codes "ou", codes "Items") ∷ [])
+items_unit = add_of (codes "ou=Items,dc=example,dc=com")
+    ((codes "objectClass", codes "organizationalUnit") ∷ (codes "ou", codes "Items") ∷ [])
 
 unfoldable pub ana : AddRequestValue
 ana =
     add_of (codes "cn=Ana,ou=Items,dc=example,dc=com")
-    ((codes "objectClass", codes "item") ∷ (codes "cn", codes "Ana") ∷ (codes "description", codes "first") ∷ (codes "label", codes "abc") ∷ (codes "rank", codes "9") ∷ [])
+    ((codes "objectClass", codes "item") ∷ (codes "cn", codes "Ana") ∷ (codes "description", codes "first") ∷
+    (codes "label", codes "abc") ∷ (codes "rank", codes "9") ∷ [])
 
 unfoldable pub anna : AddRequestValue
 anna =
     add_of (codes "cn=Anna,ou=Items,dc=example,dc=com")
-    ((codes "objectClass", codes "item") ∷ (codes "cn", codes "Anna") ∷ (codes "label", codes "xyz") ∷ (codes "rank", codes "10") ∷ [])
+    ((codes "objectClass", codes "item") ∷ (codes "cn", codes "Anna") ∷ (codes "label", codes "xyz") ∷
+    (codes "rank", codes "10") ∷ [])
 
 unfoldable pub anana : AddRequestValue
 anana =
     add_of (codes "cn=Anana,ou=Items,dc=example,dc=com")
-    ((codes "objectClass", codes "item") ∷ (codes "cn", codes "Anana") ∷ (codes "ticket", codes "7") ∷ (codes "rank", codes "-3") ∷ [])
+    ((codes "objectClass", codes "item") ∷ (codes "cn", codes "Anana") ∷ (codes "ticket", codes "7") ∷
+    (codes "rank", codes "-3") ∷ [])
 
 unfoldable pub an_na : AddRequestValue
 an_na =
     add_of (codes "cn=An Na,ou=Items,dc=example,dc=com")
-    ((codes "objectClass", codes "item") ∷ (codes "cn", codes "An Na") ∷ (codes "rank", codes "1234567890123456789012345678901234567890") ∷ [])
+    ((codes "objectClass", codes "item") ∷ (codes "cn", codes "An Na") ∷
+    (codes "rank", codes "1234567890123456789012345678901234567890") ∷ [])
 
 -- The sample: six entries, each by an add.
 unfoldable pub sample : List OpValue

@@ -5,10 +5,12 @@ use Rattle.directory_api.specs.Pairs.{both, reads_of, asked_of_gate, PairGoesAlo
 use Rattle.directory_api.specs.Counting.{updates_of, updates_in, greatest_count, Counts, PairCounts}
 
 -- a talk that begins where a value stays
-stayed : {D T : Type 0} (allows : D → Exchange T → D → Type 0) (d m e : D) (xs : List (Exchange T)) → m ≡ d → Along allows m xs e → Along allows d xs e
+stayed : {D T : Type 0} (allows : D → Exchange T → D → Type 0) (d m e : D) (xs : List (Exchange T)) → m ≡ d →
+    Along allows m xs e → Along allows d xs e
 stayed {T = T} allows d m e xs q along = subst (λ x. Along allows x xs e) q along
 
-go : {L G T : Type 0} (look : L → Exchange T → L → Type 0) (gate : G → Exchange T → G → Type 0) (d e : L × G) (talk : List (Exchange T)) →
+go : {L G T : Type 0} (look : L → Exchange T → L → Type 0) (gate : G → Exchange T → G → Type 0) (d e : L × G)
+    (talk : List (Exchange T)) →
     Along (both look gate) d talk e → Along look d.0 (reads_of talk) e.0 × Along gate d.1 (asked_of_gate talk) e.1
 go look gate d e [] ends = (ends, ends)
 go look gate d e (asked_role r t ∷ xs) (goes {e = m} x rest) =
@@ -27,7 +29,8 @@ go look gate d e (updated c n u f ∷ xs) (goes {e = m} x rest) =
     let after = go look gate m e xs rest in
     (stayed look d.0 m.0 e.0 (reads_of xs) x.1 after.0, goes x.0 after.1)
 
-pub pair_goes_along : {L G T : Type 0} (look : L → Exchange T → L → Type 0) (gate : G → Exchange T → G → Type 0) → PairGoesAlong look gate
+pub pair_goes_along : {L G T : Type 0} (look : L → Exchange T → L → Type 0) (gate : G → Exchange T → G → Type 0) →
+    PairGoesAlong look gate
 pair_goes_along look gate = go look gate
 
 none_more : (n m : ℕ) → n ≤ m → n ≡ min (n + 0) m
@@ -43,15 +46,20 @@ same_count : (a b m : ℕ) → a ≤ m → b ≡ a → b ≡ min (a + 0) m
 same_count a b m p q = omega (arith, p, q)
 
 -- one exchange with a pair
-step : {L G T : Type 0} (look : L → Exchange T → L → Type 0) (gate : G → Exchange T → G → Type 0) (count : G → ℕ) → Counts count gate →
-    (d e : L × G) (x : Exchange T) → count d.1 ≤ greatest_count → both look gate d x e → count e.1 ≡ min (count d.1 + updates_of x) greatest_count
+step : {L G T : Type 0} (look : L → Exchange T → L → Type 0) (gate : G → Exchange T → G → Type 0) (count : G → ℕ) →
+    Counts count gate →
+    (d e : L × G) (x : Exchange T) → count d.1 ≤ greatest_count → both look gate d x e →
+    count e.1 ≡ min (count d.1 + updates_of x) greatest_count
 step look gate count counts d e (asked_role r t) p x = counts d.1 e.1 (asked_role r t) x.0
 step look gate count counts d e (learned t) p x = same_count (count d.1) (count e.1) greatest_count p (ap count x.1)
-step look gate count counts d e (searched n q f) p x = same_count (count d.1) (count e.1) greatest_count p (ap count x.1)
-step look gate count counts d e (compared n q f) p x = same_count (count d.1) (count e.1) greatest_count p (ap count x.1)
+step look gate count counts d e (searched n q f) p x = same_count (count d.1) (count e.1) greatest_count p
+    (ap count x.1)
+step look gate count counts d e (compared n q f) p x = same_count (count d.1) (count e.1) greatest_count p
+    (ap count x.1)
 step look gate count counts d e (updated c n u f) p x = counts d.1 e.1 (updated c n u f) x.0
 
-pub pair_counts : {L G T : Type 0} (look : L → Exchange T → L → Type 0) (gate : G → Exchange T → G → Type 0) (count : G → ℕ) → Counts count gate →
+pub pair_counts : {L G T : Type 0} (look : L → Exchange T → L → Type 0) (gate : G → Exchange T → G → Type 0)
+    (count : G → ℕ) → Counts count gate →
     PairCounts look gate count
 pair_counts look gate count counts d e [] p ends = none_more (count d.1) greatest_count p
 pair_counts look gate count counts d e (x ∷ xs) p (goes {e = m} s rest) =

@@ -2,13 +2,16 @@
 use Rattle.std.specs.Prelude.{◌≡◌, List, [], ◌∷◌}
 use Rattle.directory_api.specs.Talk.{Exchange, asked_role, learned, searched, compared, updated, Along}
 
--- what a pair of a look and a gate allows: of reads and of what is told what the look does, of the rest what the gate does; the other stays
-abbrev pub both : {L G T : Type 0} → (L → Exchange T → L → Type 0) → (G → Exchange T → G → Type 0) → L × G → Exchange T → L × G → Type 0
+-- what a pair of a look and a gate allows: of reads and of what is told what the look does, of the rest what the gate
+-- does; the other stays
+abbrev pub both : {L G T : Type 0} → (L → Exchange T → L → Type 0) → (G → Exchange T → G → Type 0) → L × G →
+    Exchange T → L × G → Type 0
 both look gate d (asked_role role told) e = gate d.1 (asked_role role told) e.1 × (e.0 ≡ d.0)
 both look gate d (learned told) e = look d.0 (learned told) e.0 × (e.1 ≡ d.1)
 both look gate d (searched number request answer) e = look d.0 (searched number request answer) e.0 × (e.1 ≡ d.1)
 both look gate d (compared number request answer) e = look d.0 (compared number request answer) e.0 × (e.1 ≡ d.1)
-both look gate d (updated client number update ended) e = gate d.1 (updated client number update ended) e.1 × (e.0 ≡ d.0)
+both look gate d (updated client number update ended) e = gate d.1 (updated client number update ended) e.1
+    × (e.0 ≡ d.0)
 
 -- what a look is asked and told in a talk
 abbrev pub reads_of : {T : Type 0} → List (Exchange T) → List (Exchange T)

@@ -33,7 +33,8 @@ pub data RoleValue : Type 0 where
   changing : RoleValue
   recovering : RoleValue
 
--- how an update ended: as the update of a number with its reply, as one that a later request made old, unknown, or without memory
+-- how an update ended: as the update of a number with its reply, as one that a later request made old, unknown, or
+-- without memory
 pub data EndedValue : Type 0 where
   done : ℕ → ReplyModel → EndedValue
   stale : EndedValue
@@ -51,4 +52,5 @@ pub data Exchange (T : Type 0) : Type 0 where
 -- A directory goes along a talk: each exchange is one that it allows, one after the other.
 pub data Along {D T : Type 0} (allows : D → Exchange T → D → Type 0) : D → List (Exchange T) → D → Type 0 where
   ends : {d : D} → Along allows d [] d
-  goes : {d e f : D} {x : Exchange T} {xs : List (Exchange T)} → allows d x e → Along allows e xs f → Along allows d (x ∷ xs) f
+  goes : {d e f : D} {x : Exchange T} {xs : List (Exchange T)} → allows d x e → Along allows e xs f →
+      Along allows d (x ∷ xs) f

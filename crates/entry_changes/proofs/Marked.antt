@@ -24,5 +24,7 @@ pub none_of : {A : Type 0} (xs : List A) → list_any (λ x. false) xs ≡ false
 none_of [] = refl
 none_of (x ∷ xs) = none_of xs
 
-pub kept_left : {A : Type 0} (p : A → Bool) (vs picks : List A) (ms ds : List Bool) → picks ≡ picked ms vs → ms ≡ map not ds → ds ≡ map p vs → picks ≡ filter (λ v. not (p v)) vs
-kept_left p vs picks ms ds h k d = h ∙ ap (λ (m : List Bool). picked m vs) (k ∙ ap (map not) d ∙ marks_turned p vs) ∙ picked_by (λ v. not (p v)) vs
+pub kept_left : {A : Type 0} (p : A → Bool) (vs picks : List A) (ms ds : List Bool) → picks ≡ picked ms vs →
+    ms ≡ map not ds → ds ≡ map p vs → picks ≡ filter (λ v. not (p v)) vs
+kept_left p vs picks ms ds h k d = h ∙ ap (λ (m : List Bool). picked m vs) (k ∙ ap (map not) d ∙ marks_turned p vs)
+    ∙ picked_by (λ v. not (p v)) vs

@@ -30,12 +30,16 @@ abbrev pub is_same_value : SchemaModel → TypeAndValue → TypeAndValue → Boo
 is_same_value s p q = nat_eq p.kind q.kind && is_equivalent s p.kind p.value q.value
 
 -- a value of the former relative name leaves, unless it is in the new one too
-abbrev pub without_value : SchemaModel → List TypeAndValue → TypeAndValue → List AttributeModel → Result (List AttributeModel) ℕ
-without_value s new p e = cond (list_any (is_same_value s p) new || not (has_value s e p)) (Ok e) (with_deleted s p.kind (p.value ∷ []) e)
+abbrev pub without_value : SchemaModel → List TypeAndValue → TypeAndValue → List AttributeModel →
+    Result (List AttributeModel) ℕ
+without_value s new p e = cond (list_any (is_same_value s p) new || not (has_value s e p)) (Ok e)
+    (with_deleted s p.kind (p.value ∷ []) e)
 
--- The entry without the values of its former relative name that are not in the new one; an attribute left without values is gone
+-- The entry without the values of its former relative name that are not in the new one; an attribute left without
+-- values is gone
 -- (RFC 4511 4.9, deleteoldrdn).
-abbrev pub without_rdn : SchemaModel → List TypeAndValue → List TypeAndValue → List AttributeModel → Result (List AttributeModel) ℕ
+abbrev pub without_rdn : SchemaModel → List TypeAndValue → List TypeAndValue → List AttributeModel →
+    Result (List AttributeModel) ℕ
 without_rdn s new [] e = Ok e
 without_rdn s new (p ∷ ps) e = and_then (without_value s new p e) (without_rdn s new ps)
 

@@ -1,4 +1,5 @@
--- Attributes whose values are changed one by one: every value that was ever there stays in its place, and an index says since which place
+-- Attributes whose values are changed one by one: every value that was ever there stays in its place, and an index says
+-- since which place
 -- values of some octets are held. No contract above names it.
 use Rattle.std.specs.Prelude.{ℕ, ◌+◌, List, [], ◌∷◌, Bool, true, false, Option, None, Some}
 use Rattle.std.specs.Bool.{nat_le}
@@ -28,7 +29,12 @@ marks_in by f a = marks_from f 0 (octets_by by a)
 
 -- the attribute with the values that are held
 abbrev pub held_in : Bool → (List ℕ → Option ℕ) → KeyedAttribute → KeyedAttribute
-held_in by f a = record { kind = a.kind; values = picked (marks_in by f a) a.values; keys = picked (marks_in by f a) a.keys }
+held_in by f a = record {
+  kind = a.kind;
+  values = picked (marks_in by f a) a.values;
+  keys = picked (marks_in by f a)
+      a.keys;
+}
 
 -- an attribute as it is seen; one without an index holds all its values
 abbrev pub seen : KeyedAttribute → Option Index → KeyedAttribute

@@ -49,7 +49,8 @@ class_values s (a ∷ e) = cond (is_object_class s a.kind) a.values (class_value
 
 -- an attribute of a SINGLE-VALUE type has at most one value (RFC 4512 4.1.2)
 abbrev pub has_single_value : SchemaModel → AttributeModel → Bool
-has_single_value s a = not (option_map_or (λ t. t.is_single_value) (type_at s a.kind) false) || nat_lt (length a.values) 2
+has_single_value s a = not (option_map_or (λ t. t.is_single_value) (type_at s a.kind) false) || nat_lt
+    (length a.values) 2
 
 -- whether no attribute of a SINGLE-VALUE type has two values
 abbrev pub has_single_values : SchemaModel → List AttributeModel → Bool
@@ -79,7 +80,8 @@ structural_of s cs = filter (is_structural s) cs
 
 -- The structural classes form one chain, and there is one (RFC 4512 2.4.2).
 abbrev pub is_one_chain : SchemaModel → List ℕ → Bool
-is_one_chain s cs = list_any (is_structural s) cs && list_all (λ a. list_all (are_in_line s a) (structural_of s cs)) (structural_of s cs)
+is_one_chain s cs = list_any (is_structural s) cs && list_all (λ a. list_all (are_in_line s a) (structural_of s cs))
+    (structural_of s cs)
 
 -- the types that a class requires, where there is one
 abbrev pub required_in : Option ClassModel → List ℕ
@@ -119,12 +121,15 @@ are_classes s values = list_all (λ v. is_some (class_named s v)) values
 abbrev pub obeys : SchemaModel → List ℕ → List AttributeModel → Bool
 obeys s cs e = is_one_chain s cs && list_all (has_required s e) cs && list_all (λ a. is_allowed s cs a.kind) e
 
--- An entry obeys its classes: objectClass is there, each of its values names a class, and these are obeyed (RFC 4512 2.4, 3.3).
+-- An entry obeys its classes: objectClass is there, each of its values names a class, and these are obeyed (RFC 4512
+-- 2.4, 3.3).
 abbrev pub obeys_classes : SchemaModel → List AttributeModel → Bool
 obeys_classes s e =
-    list_any (λ a. is_object_class s a.kind) e && are_classes s (class_values s e) && obeys s (classes_named s (class_values s e)) e
+    list_any (λ a. is_object_class s a.kind) e && are_classes s (class_values s e)
+    && obeys s (classes_named s (class_values s e)) e
 
--- An entry as it stands: constraintViolation (19) where a SINGLE-VALUE type has two values, then objectClassViolation (65) where its
+-- An entry as it stands: constraintViolation (19) where a SINGLE-VALUE type has two values, then objectClassViolation
+-- (65) where its
 -- classes are not obeyed (RFC 4511 Appendix A.2).
 abbrev pub checked : SchemaModel → List AttributeModel → Result (List AttributeModel) ℕ
 checked s e = refuse (not (has_single_values s e)) 19 (refuse (not (obeys_classes s e)) 65 (Ok e))

@@ -25,9 +25,11 @@ is_other_than (Some c) (Some b) = not (nat_eq c b)
 -- whether an entry's structural object class is another one than before
 abbrev pub changes_class : SchemaModel → List AttributeModel → List AttributeModel → Bool
 changes_class s before e =
-    is_other_than (structural_class s (classes_named s (class_values s e))) (structural_class s (classes_named s (class_values s before)))
+    is_other_than (structural_class s (classes_named s (class_values s e)))
+    (structural_class s (classes_named s (class_values s before)))
 
 -- with its superclasses: constraintViolation (19), objectClassModsProhibited (69), objectClassViolation (65)
 abbrev pub kept_completed : SchemaModel → List AttributeModel → List AttributeModel → Result (List AttributeModel) ℕ
 kept_completed s before e =
-    refuse (not (has_single_values s e)) 19 (refuse (changes_class s before e) 69 (refuse (not (obeys_classes s e)) 65 (Ok e)))
+    refuse (not (has_single_values s e)) 19 (refuse (changes_class s before e) 69 (refuse (not (obeys_classes s e)) 65
+    (Ok e)))

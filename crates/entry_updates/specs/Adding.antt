@@ -14,10 +14,13 @@ with_given s None values e = Err 17
 with_given s (Some t) values e = with_attribute s t values e
 
 -- the entry with what is given, one attribute after the other
-abbrev pub with_all_given : SchemaModel → List PartialAttributeValue → List AttributeModel → Result (List AttributeModel) ℕ
+abbrev pub with_all_given : SchemaModel → List PartialAttributeValue → List AttributeModel →
+    Result (List AttributeModel) ℕ
 with_all_given s [] e = Ok e
 with_all_given s (g ∷ gs) e = and_then (with_given s (find s g.description) g.values e) (with_all_given s gs)
 
--- The attributes of a new entry: what is given, then the values of its relative name, then what its classes demand (RFC 4511 4.7).
-abbrev pub attributes_asked : SchemaModel → List TypeAndValue → List PartialAttributeValue → Result (List AttributeModel) ℕ
+-- The attributes of a new entry: what is given, then the values of its relative name, then what its classes demand (RFC
+-- 4511 4.7).
+abbrev pub attributes_asked : SchemaModel → List TypeAndValue → List PartialAttributeValue →
+    Result (List AttributeModel) ℕ
 attributes_asked s rdn gs = and_then (with_all_given s gs []) (named s rdn)

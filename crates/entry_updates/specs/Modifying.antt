@@ -18,13 +18,15 @@ is_increment Increment = true
 is_increment operation = false
 
 -- a change of a recognised type; protocolError (2) for an increment (RFC 4511 4.6, Appendix A.2)
-abbrev pub with_change : SchemaModel → ModifyOperation → ℕ → List (List ℕ) → List AttributeModel → Result (List AttributeModel) ℕ
+abbrev pub with_change : SchemaModel → ModifyOperation → ℕ → List (List ℕ) → List AttributeModel →
+    Result (List AttributeModel) ℕ
 with_change s Add t values e = with_added s t values e
 with_change s Delete t values e = with_deleted s t values e
 with_change s Replace t values e = with_replaced s t values e
 with_change s Increment t values e = Err 2
 
--- One change: protocolError (2) for an increment, undefinedAttributeType (17) where the description is not recognised, then what the change
+-- One change: protocolError (2) for an increment, undefinedAttributeType (17) where the description is not recognised,
+-- then what the change
 -- itself refuses.
 abbrev pub changed : SchemaModel → ChangeValue → List AttributeModel → Result (List AttributeModel) ℕ
 changed s c e =
@@ -37,5 +39,6 @@ all_changed s [] e = Ok e
 all_changed s (c ∷ cs) e = and_then (changed s c e) (all_changed s cs)
 
 -- The attributes after a modify: the changes in order, then what the relative name and the classes demand at the end.
-abbrev pub attributes_changed : SchemaModel → List TypeAndValue → List ChangeValue → List AttributeModel → Result (List AttributeModel) ℕ
+abbrev pub attributes_changed : SchemaModel → List TypeAndValue → List ChangeValue → List AttributeModel →
+    Result (List AttributeModel) ℕ
 attributes_changed s rdn cs e = and_then (all_changed s cs e) (kept s rdn e)

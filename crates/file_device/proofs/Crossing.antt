@@ -1,4 +1,5 @@
--- The files of a replica may go to another thread: what clauses alone know of them owns nothing. What looks at it may be shared.
+-- The files of a replica may go to another thread: what clauses alone know of them owns nothing. What looks at it may
+-- be shared.
 use denote.Struct.Declared
 use denote.Param.Send.{IsSend, IsSync, owning_send, recorded_send, struct_send, sendable}
 use Rattle.std.proofs.Crossing.{crosses}

@@ -10,8 +10,11 @@ is_torn (x ∷ octets) (w ∷ written) = (x == 0 || x == w) && is_torn octets wr
 
 -- the slot that a first start stores: an open gate, the version, the sequence 1, view 0, one restart, the cluster
 abbrev pub first_slot : ℕ → ℕ → List ℕ
-first_slot version cluster = 165 ∷ version ∷ (replicate 7 0 ++ 1 ∷ (replicate 8 0 ++ (replicate 7 0 ++ 1 ∷ cluster_octets cluster)))
+first_slot version cluster =
+    165 ∷ version ∷ (replicate 7 0 ++ 1 ∷ (replicate 8 0 ++ (replicate 7 0 ++ 1 ∷ cluster_octets cluster)))
 
--- Each octet is 0, or that of the first slot in the same place: nothing was written there, or the first store was cut short.
+-- Each octet is 0, or that of the first slot in the same place: nothing was written there, or the first store was cut
+-- short.
 abbrev pub IsUnused : ℕ → List ℕ → Type 0
-IsUnused cluster octets = (is_torn octets (first_slot 2 cluster) ≡ true) ⊎ (is_torn octets (first_slot 3 cluster) ≡ true)
+IsUnused cluster octets = (is_torn octets (first_slot 2 cluster) ≡ true)
+    ⊎ (is_torn octets (first_slot 3 cluster) ≡ true)

@@ -8,7 +8,8 @@ use Rattle.filter_text.specs.private.Cuts.{is_name_octet, front}
 use Rattle.filter_text.proofs.Booleans.{right, both, either}
 use Rattle.filter_text.proofs.Machines.{false_true}
 
-passes_at : (b : Bool) (p : ℕ → Bool) (c : ℕ) (cs : List ℕ) → p c ≡ b → list_all p (take (prefix_len p cs) cs) ≡ true → list_all p (take (cond b (1 + prefix_len p cs) 0) (c ∷ cs)) ≡ true
+passes_at : (b : Bool) (p : ℕ → Bool) (c : ℕ) (cs : List ℕ) → p c ≡ b → list_all p (take (prefix_len p cs) cs) ≡
+    true → list_all p (take (cond b (1 + prefix_len p cs) 0) (c ∷ cs)) ≡ true
 passes_at true p c cs e h =
     let n : 1 + prefix_len p cs ≡ suc (prefix_len p cs) = omega arith in
     ap (λ k. list_all p (take k (c ∷ cs))) n ∙ both (p c) (list_all p (take (prefix_len p cs) cs)) e h
@@ -18,7 +19,8 @@ front_passes : (p : ℕ → Bool) (text : List ℕ) → list_all p (front p text
 front_passes p [] = refl
 front_passes p (c ∷ cs) = passes_at (p c) p c cs refl (front_passes p cs)
 
-pub names_front : (n : ℕ) (text : List ℕ) → n ≡ prefix_len is_name_octet text → list_all is_name_octet (take n text) ≡ true
+pub names_front : (n : ℕ) (text : List ℕ) → n ≡ prefix_len is_name_octet text → list_all is_name_octet (take n text) ≡
+    true
 names_front n text e = ap (λ k. list_all is_name_octet (take k text)) e ∙ front_passes is_name_octet text
 
 letter_small : (c : ℕ) → is_alpha c ≡ true → c < 128
@@ -33,7 +35,8 @@ is_small c k e l = let x = eqb-true c k e in omega (arith, x, l)
 key_small : (c : ℕ) → is_key_octet c ≡ true → c < 128
 key_small c h =
     either (is_alpha c || (nat_le 48 c && nat_le c 57)) (nat_eq c 45) h
-    (λ g. either (is_alpha c) (nat_le 48 c && nat_le c 57) g (letter_small c) (λ f. let x = leb-true c 57 (right (nat_le 48 c) (nat_le c 57) f) in omega (arith, x)))
+    (λ g. either (is_alpha c) (nat_le 48 c && nat_le c 57) g (letter_small c)
+    (λ f. let x = leb-true c 57 (right (nat_le 48 c) (nat_le c 57) f) in omega (arith, x)))
     (λ g. is_small c 45 g (omega arith))
 
 name_small : (c : ℕ) → is_name_octet c ≡ true → c < 128
@@ -42,7 +45,8 @@ name_small c h =
     (λ g. either (is_key_octet c) (nat_eq c 46) g (key_small c) (λ f. is_small c 46 f (omega arith)))
     (λ g. is_small c 59 g (omega arith))
 
-name_at : (b : Bool) (xs : List ℕ) (i : ℕ) → i < length xs → list_all is_name_octet xs ≡ true → is_name_octet (get_or xs i 0) ≡ b → b ≡ true
+name_at : (b : Bool) (xs : List ℕ) (i : ℕ) → i < length xs → list_all is_name_octet xs ≡ true →
+    is_name_octet (get_or xs i 0) ≡ b → b ≡ true
 name_at true xs i l h e = refl
 name_at false xs i l h e = absurd (false_true (sym (list_all_at is_name_octet xs i 0 l e) ∙ h))
 

@@ -41,7 +41,8 @@ pub no_oid : (c : ℕ) → IsOther c → (o : OidPlace) → oid_step o c ≡ Non
 no_oid c s Letters = ap (λ b. cond b (Some Letters) None) s.key
 no_oid c s Zero = no_dot c s
 no_oid c s Number = ap (λ b. cond b (Some Number) (dotted c)) s.digit ∙ no_dot c s
-no_oid c s Dot = ap (λ b. cond b (Some DottedZero) (cond (is_digit c) (Some DottedNumber) None)) s.zero ∙ ap (λ b. cond b (Some DottedNumber) None) s.digit
+no_oid c s Dot = ap (λ b. cond b (Some DottedZero) (cond (is_digit c) (Some DottedNumber) None)) s.zero
+    ∙ ap (λ b. cond b (Some DottedNumber) None) s.digit
 no_oid c s DottedZero = no_dot c s
 no_oid c s DottedNumber = ap (λ b. cond b (Some DottedNumber) (dotted c)) s.digit ∙ no_dot c s
 
@@ -50,9 +51,11 @@ no_out true = refl
 no_out false = refl
 
 pub no_name : (c : ℕ) → IsOther c → (n : NamePlace) → name_step n c ≡ None
-no_name c s (Oid o) = ap (within Oid (oid_out o c)) (no_oid c s o) ∙ ap (λ b. cond (oid_ends o) (cond b (Some Semicolon) None) None) s.semicolon ∙ no_out (oid_ends o)
+no_name c s (Oid o) = ap (within Oid (oid_out o c)) (no_oid c s o)
+    ∙ ap (λ b. cond (oid_ends o) (cond b (Some Semicolon) None) None) s.semicolon ∙ no_out (oid_ends o)
 no_name c s Semicolon = ap (λ b. cond b (Some Keys) None) s.key
-no_name c s Keys = ap (λ b. cond b (Some Keys) (cond (nat_eq c 59) (Some Semicolon) None)) s.key ∙ ap (λ b. cond b (Some Semicolon) None) s.semicolon
+no_name c s Keys = ap (λ b. cond b (Some Keys) (cond (nat_eq c 59) (Some Semicolon) None)) s.key
+    ∙ ap (λ b. cond b (Some Semicolon) None) s.semicolon
 
 colon_is_other : IsOther 58
 colon_is_other = record { key = refl; digit = refl; zero = refl; dot = refl; semicolon = refl }
@@ -74,7 +77,8 @@ pub not_equals : (c : ℕ) (o : OidPlace) → oid_first c ≡ Some o → nat_eq 
 not_equals c o e = not_equals_at (nat_eq c 61) c o refl e
 
 start_step : (c : ℕ) (o : OidPlace) → oid_first c ≡ Some o → item_step Start c ≡ Some (Name (Oid o))
-start_step c o e = ap (λ b. cond b (Some BareColon) (option_map (λ u. Name (Oid u)) (oid_first c))) (not_colon_at (nat_eq c 58) c o refl e) ∙ ap (option_map (λ u. Name (Oid u))) e
+start_step c o e = ap (λ b. cond b (Some BareColon) (option_map (λ u. Name (Oid u)) (oid_first c)))
+    (not_colon_at (nat_eq c 58) c o refl e) ∙ ap (option_map (λ u. Name (Oid u))) e
 
 record NameTo (d x : List ℕ) : Type 0 where
   place : NamePlace
@@ -87,15 +91,18 @@ name_to d x h =
     subst (λ y. NameTo y x) (sym r.parts) (record {
       place = r.place;
       done = r.done;
-      ran = one_step item_step Start (Name (Oid r.first)) r.head (r.tail ++ x) (start_step r.head r.first r.begins) ∙ embed name_step item_step Name name_out (λ s c. refl) (Oid r.first) r.place r.tail x r.ran;
+      ran = one_step item_step Start (Name (Oid r.first)) r.head (r.tail ++ x) (start_step r.head r.first r.begins)
+          ∙ embed name_step item_step Name name_out (λ s c. refl) (Oid r.first) r.place r.tail x r.ran;
     })
 
-leave : (n : NamePlace) (c : ℕ) (p : ItemPlace) (x : List ℕ) → IsOther c → name_out n c ≡ Some p → run item_step (Name n) (c ∷ x) ≡ run item_step p x
+leave : (n : NamePlace) (c : ℕ) (p : ItemPlace) (x : List ℕ) → IsOther c → name_out n c ≡ Some p →
+    run item_step (Name n) (c ∷ x) ≡ run item_step p x
 leave n c p x s e = one_step item_step (Name n) p c x (ap (within Name (name_out n c)) (no_name c s n) ∙ e)
 
 -- ---- a description, an operator and a value
 
-to_equals : (d x : List ℕ) → is_description d ≡ true → run item_step Start (d ++ 61 ∷ x) ≡ run item_step (Part Between) x
+to_equals : (d x : List ℕ) → is_description d ≡ true → run item_step Start (d ++ 61 ∷ x) ≡ run item_step
+    (Part Between) x
 to_equals d x h =
     let t = name_to d (61 ∷ x) h in
     t.ran ∙ leave t.place 61 (Part Between) x equals_is_other (ap (λ b. cond b (Some (Part Between)) None) t.done)
@@ -105,35 +112,63 @@ to_colon d x h =
     let t = name_to d (58 ∷ x) h in
     t.ran ∙ leave t.place 58 Colon x colon_is_other (ap (λ b. cond b (Some Colon) None) t.done)
 
-to_value : (k : Comparison) (d x : List ℕ) → is_description d ≡ true → ((e : k ≡ equal) → ⊥) → run item_step Start (d ++ (operator k ++ x)) ≡ run item_step (Plain Between) x
+to_value : (k : Comparison) (d x : List ℕ) → is_description d ≡ true → ((e : k ≡ equal) → ⊥) →
+    run item_step Start (d ++ (operator k ++ x)) ≡ run item_step (Plain Between) x
 to_value equal d x h f = absurd (f refl)
 to_value at_least d x h f =
     let t = name_to d (62 ∷ 61 ∷ x) h in
-    t.ran ∙ leave t.place 62 Sign (61 ∷ x) (record { key = refl; digit = refl; zero = refl; dot = refl; semicolon = refl }) (ap (λ b. cond b (Some Sign) None) t.done)
+    t.ran ∙ leave t.place 62 Sign (61 ∷ x) (record {
+      key = refl;
+      digit = refl;
+      zero = refl;
+      dot = refl;
+      semicolon =
+          refl;
+    }) (ap (λ b. cond b (Some Sign) None) t.done)
 to_value at_most d x h f =
     let t = name_to d (60 ∷ 61 ∷ x) h in
-    t.ran ∙ leave t.place 60 Sign (61 ∷ x) (record { key = refl; digit = refl; zero = refl; dot = refl; semicolon = refl }) (ap (λ b. cond b (Some Sign) None) t.done)
+    t.ran ∙ leave t.place 60 Sign (61 ∷ x) (record {
+      key = refl;
+      digit = refl;
+      zero = refl;
+      dot = refl;
+      semicolon =
+          refl;
+    }) (ap (λ b. cond b (Some Sign) None) t.done)
 to_value approximate d x h f =
     let t = name_to d (126 ∷ 61 ∷ x) h in
-    t.ran ∙ leave t.place 126 Sign (61 ∷ x) (record { key = refl; digit = refl; zero = refl; dot = refl; semicolon = refl }) (ap (λ b. cond b (Some Sign) None) t.done)
+    t.ran ∙ leave t.place 126 Sign (61 ∷ x) (record {
+      key = refl;
+      digit = refl;
+      zero = refl;
+      dot = refl;
+      semicolon =
+          refl;
+    }) (ap (λ b. cond b (Some Sign) None) t.done)
 
 abbrev Accepted : List ℕ → Type 0
 Accepted text = accepts item_step item_ends Start text ≡ true
 
-whole : (text : List ℕ) (p : ItemPlace) (x : List ℕ) → run item_step Start text ≡ run item_step p x → accepts item_step item_ends p x ≡ true → Accepted text
+whole : (text : List ℕ) (p : ItemPlace) (x : List ℕ) → run item_step Start text ≡ run item_step p x →
+    accepts item_step item_ends p x ≡ true → Accepted text
 whole text p x e h = ap (holds item_ends) e ∙ h
 
 plain_accepts : {v text : List ℕ} → IsValue v text → accepts item_step item_ends (Plain Between) text ≡ true
 plain_accepts s = ap (holds item_ends) (plain_run s)
 
 part_accepts : {v text : List ℕ} → IsValue v text → accepts item_step item_ends (Part Between) text ≡ true
-part_accepts {v} {text} s = ap (accepts item_step item_ends (Part Between)) (sym (append-nil text)) ∙ ap (holds item_ends) (part_run [] s)
+part_accepts {v} {text} s = ap (accepts item_step item_ends (Part Between)) (sym (append-nil text))
+    ∙ ap (holds item_ends) (part_run [] s)
 
-simple : (k : Comparison) (d a value : List ℕ) → is_description d ≡ true → IsValue a value → Accepted (d ++ (operator k ++ value))
+simple : (k : Comparison) (d a value : List ℕ) → is_description d ≡ true → IsValue a value →
+    Accepted (d ++ (operator k ++ value))
 simple equal d a value h s = whole (d ++ 61 ∷ value) (Part Between) value (to_equals d value h) (part_accepts s)
-simple at_least d a value h s = whole (d ++ 62 ∷ 61 ∷ value) (Plain Between) value (to_value at_least d value h (λ e. cc)) (plain_accepts s)
-simple at_most d a value h s = whole (d ++ 60 ∷ 61 ∷ value) (Plain Between) value (to_value at_most d value h (λ e. cc)) (plain_accepts s)
-simple approximate d a value h s = whole (d ++ 126 ∷ 61 ∷ value) (Plain Between) value (to_value approximate d value h (λ e. cc)) (plain_accepts s)
+simple at_least d a value h s = whole (d ++ 62 ∷ 61 ∷ value) (Plain Between) value
+    (to_value at_least d value h (λ e. cc)) (plain_accepts s)
+simple at_most d a value h s = whole (d ++ 60 ∷ 61 ∷ value) (Plain Between) value
+    (to_value at_most d value h (λ e. cc)) (plain_accepts s)
+simple approximate d a value h s = whole (d ++ 126 ∷ 61 ∷ value) (Plain Between) value (to_value approximate d value h
+    (λ e. cc)) (plain_accepts s)
 
 -- ---- behind a colon
 
@@ -145,11 +180,14 @@ record WordTo (r x : List ℕ) : Type 0 where
   bare : run item_step BareColon (r ++ x) ≡ run item_step (Rule word place) x
   behind : run item_step Colon (r ++ x) ≡ run item_step (Rule word place) x
 
-word_run : (w : Word) (o p : OidPlace) (cs x : List ℕ) → run oid_step o cs ≡ Some p → run item_step (Rule w o) (cs ++ x) ≡ run item_step (Rule (words w cs) p) x
-word_run w o p cs x e = embed word_oid item_step put_rule out_of_rule rule_inside (w, o) (words w cs, p) cs x (worded w o p cs e)
+word_run : (w : Word) (o p : OidPlace) (cs x : List ℕ) → run oid_step o cs ≡ Some p →
+    run item_step (Rule w o) (cs ++ x) ≡ run item_step (Rule (words w cs) p) x
+word_run w o p cs x e = embed word_oid item_step put_rule out_of_rule rule_inside (w, o) (words w cs, p) cs x
+    (worded w o p cs e)
 
 colon_step : (c : ℕ) (o : OidPlace) → oid_first c ≡ Some o → item_step Colon c ≡ Some (Rule (word_first c) o)
-colon_step c o e = ap (λ b. cond b (Some (Plain Between)) (rule_first c)) (not_equals_at (nat_eq c 61) c o refl e) ∙ ap (option_map (λ u. Rule (word_first c) u)) e
+colon_step c o e = ap (λ b. cond b (Some (Plain Between)) (rule_first c)) (not_equals_at (nat_eq c 61) c o refl e)
+    ∙ ap (option_map (λ u. Rule (word_first c) u)) e
 
 word_to : (r x : List ℕ) → is_oid r ≡ true → WordTo r x
 word_to r x h =
@@ -159,14 +197,19 @@ word_to r x h =
       place = t.place;
       done = t.done;
       says = dn_word t.head t.tail;
-      bare = one_step item_step BareColon (Rule (word_first t.head) t.first) t.head (t.tail ++ x) (ap (option_map (λ u. Rule (word_first t.head) u)) t.begins) ∙ word_run (word_first t.head) t.first t.place t.tail x t.ran;
-      behind = one_step item_step Colon (Rule (word_first t.head) t.first) t.head (t.tail ++ x) (colon_step t.head t.first t.begins) ∙ word_run (word_first t.head) t.first t.place t.tail x t.ran;
+      bare = one_step item_step BareColon (Rule (word_first t.head) t.first) t.head (t.tail ++ x)
+          (ap (option_map (λ u. Rule (word_first t.head) u)) t.begins) ∙ word_run (word_first t.head) t.first t.place
+          t.tail x t.ran;
+      behind = one_step item_step Colon (Rule (word_first t.head) t.first) t.head (t.tail ++ x)
+          (colon_step t.head t.first t.begins) ∙ word_run (word_first t.head) t.first t.place t.tail x t.ran;
     })
 
-word_end : (w : Word) (o : OidPlace) (x : List ℕ) → oid_ends o ≡ true → run item_step (Rule w o) (58 ∷ x) ≡ run item_step (behind_word w) x
+word_end : (w : Word) (o : OidPlace) (x : List ℕ) → oid_ends o ≡ true → run item_step (Rule w o) (58 ∷ x) ≡
+    run item_step (behind_word w) x
 word_end w o x h =
     one_step item_step (Rule w o) (behind_word w) 58 x
-    (ap (within (Rule (word_step w 58)) (rule_out w o 58)) (no_oid 58 colon_is_other o) ∙ ap (λ b. cond b (Some (behind_word w)) None) h)
+    (ap (within (Rule (word_step w 58)) (rule_out w o 58)) (no_oid 58 colon_is_other o)
+    ∙ ap (λ b. cond b (Some (behind_word w)) None) h)
 
 word_assign : (w : Word) (x : List ℕ) → run item_step (behind_word w) (61 ∷ x) ≡ run item_step (Plain Between) x
 word_assign OnlyD x = refl
@@ -174,17 +217,23 @@ word_assign Dn x = refl
 word_assign Other x = refl
 
 -- `=` and a value behind a word and a colon
-word_value : {v value : List ℕ} (w : Word) (o : OidPlace) → oid_ends o ≡ true → IsValue v value → accepts item_step item_ends (Rule w o) (58 ∷ 61 ∷ value) ≡ true
-word_value {v} {value} w o h s = ap (holds item_ends) (word_end w o (61 ∷ value) h ∙ word_assign w value) ∙ plain_accepts s
+word_value : {v value : List ℕ} (w : Word) (o : OidPlace) → oid_ends o ≡ true → IsValue v value →
+    accepts item_step item_ends (Rule w o) (58 ∷ 61 ∷ value) ≡ true
+word_value {v} {value} w o h s = ap (holds item_ends) (word_end w o (61 ∷ value) h ∙ word_assign w value)
+    ∙ plain_accepts s
 
 dn_step : (c : ℕ) (o : OidPlace) → oid_first c ≡ Some o → item_step DnColon c ≡ Some (LastRule o)
-dn_step c o e = ap (λ b. cond b (Some (Plain Between)) (option_map LastRule (oid_first c))) (not_equals_at (nat_eq c 61) c o refl e) ∙ ap (option_map LastRule) e
+dn_step c o e = ap (λ b. cond b (Some (Plain Between)) (option_map LastRule (oid_first c)))
+    (not_equals_at (nat_eq c 61) c o refl e) ∙ ap (option_map LastRule) e
 
-last_end : (o : OidPlace) (x : List ℕ) → oid_ends o ≡ true → run item_step (LastRule o) (58 ∷ x) ≡ run item_step Assign x
-last_end o x h = one_step item_step (LastRule o) Assign 58 x (ap (within LastRule (last_out o 58)) (no_oid 58 colon_is_other o) ∙ ap (λ b. cond b (Some Assign) None) h)
+last_end : (o : OidPlace) (x : List ℕ) → oid_ends o ≡ true → run item_step (LastRule o) (58 ∷ x) ≡ run item_step
+    Assign x
+last_end o x h = one_step item_step (LastRule o) Assign 58 x (ap (within LastRule (last_out o 58))
+    (no_oid 58 colon_is_other o) ∙ ap (λ b. cond b (Some Assign) None) h)
 
 -- a rule, `:=` and a value behind `:dn:`
-last_value : {v value : List ℕ} (r : List ℕ) → is_oid r ≡ true → IsValue v value → accepts item_step item_ends DnColon (r ++ 58 ∷ 61 ∷ value) ≡ true
+last_value : {v value : List ℕ} (r : List ℕ) → is_oid r ≡ true → IsValue v value → accepts item_step item_ends DnColon
+    (r ++ 58 ∷ 61 ∷ value) ≡ true
 last_value {v} {value} r h s =
     let t = oid_run r h in
     subst (λ y. accepts item_step item_ends DnColon (y ++ 58 ∷ 61 ∷ value) ≡ true) (sym t.parts)
@@ -194,12 +243,14 @@ last_value {v} {value} r h s =
     ∙ last_end t.place (61 ∷ value) t.done) ∙ plain_accepts s)
 
 -- behind `dn` and a colon
-dn_end : (w : Word) (o : OidPlace) (x : List ℕ) → is_dn_word w ≡ true → oid_ends o ≡ true → run item_step (Rule w o) (58 ∷ x) ≡ run item_step DnColon x
+dn_end : (w : Word) (o : OidPlace) (x : List ℕ) → is_dn_word w ≡ true → oid_ends o ≡ true →
+    run item_step (Rule w o) (58 ∷ x) ≡ run item_step DnColon x
 dn_end w o x e h = word_end w o x h ∙ ap (λ u. run item_step (behind_word u) x) (is_dn_here w e)
 
 -- what follows the colon behind a description, or at the beginning
 record Behind (place : ItemPlace) : Type 0 where
-  words_to : (r x : List ℕ) → is_oid r ≡ true → (w : Word) × (o : OidPlace) × (oid_ends o ≡ true) × (is_dn r ≡ is_dn_word w) × (run item_step place (r ++ x) ≡ run item_step (Rule w o) x)
+  words_to : (r x : List ℕ) → is_oid r ≡ true → (w : Word) × (o : OidPlace) × (oid_ends o ≡ true)
+      × (is_dn r ≡ is_dn_word w) × (run item_step place (r ++ x) ≡ run item_step (Rule w o) x)
 
 behind_bare : Behind BareColon
 behind_bare = record { words_to = λ r x h. let t = word_to r x h in (t.word, t.place, t.done, t.says, t.bare) }
@@ -207,13 +258,17 @@ behind_bare = record { words_to = λ r x h. let t = word_to r x h in (t.word, t.
 behind_name : Behind Colon
 behind_name = record { words_to = λ r x h. let t = word_to r x h in (t.word, t.place, t.done, t.says, t.behind) }
 
-rule_value : {v value : List ℕ} (p : ItemPlace) → Behind p → (r : List ℕ) → is_oid r ≡ true → IsValue v value → accepts item_step item_ends p (r ++ 58 ∷ 61 ∷ value) ≡ true
-rule_value {v} {value} p b r h s = let t = b.words_to r (58 ∷ 61 ∷ value) h in ap (holds item_ends) t.4 ∙ word_value t.0 t.1 t.2 s
+rule_value : {v value : List ℕ} (p : ItemPlace) → Behind p → (r : List ℕ) → is_oid r ≡ true → IsValue v value →
+    accepts item_step item_ends p (r ++ 58 ∷ 61 ∷ value) ≡ true
+rule_value {v} {value} p b r h s = let t = b.words_to r (58 ∷ 61 ∷ value) h in ap (holds item_ends) t.4
+    ∙ word_value t.0 t.1 t.2 s
 
-dn_value : {v value : List ℕ} (p : ItemPlace) → Behind p → (w : List ℕ) → is_dn w ≡ true → IsValue v value → accepts item_step item_ends p (w ++ 58 ∷ 61 ∷ value) ≡ true
+dn_value : {v value : List ℕ} (p : ItemPlace) → Behind p → (w : List ℕ) → is_dn w ≡ true → IsValue v value →
+    accepts item_step item_ends p (w ++ 58 ∷ 61 ∷ value) ≡ true
 dn_value p b w h s = rule_value p b w (dn_oid w h) s
 
-dn_rule_value : {v value : List ℕ} (p : ItemPlace) → Behind p → (w r : List ℕ) → is_dn w ≡ true → is_oid r ≡ true → IsValue v value
+dn_rule_value : {v value : List ℕ} (p : ItemPlace) → Behind p → (w r : List ℕ) → is_dn w ≡ true → is_oid r ≡ true →
+    IsValue v value
     → accepts item_step item_ends p (w ++ 58 ∷ (r ++ 58 ∷ 61 ∷ value)) ≡ true
 dn_rule_value {v} {value} p b w r h g s =
     let t = b.words_to w (58 ∷ (r ++ 58 ∷ 61 ∷ value)) (dn_oid w h) in
@@ -224,36 +279,47 @@ dn_rule_value {v} {value} p b w r h g s =
 bare_to : (text x : List ℕ) → text ≡ 58 ∷ x → accepts item_step item_ends BareColon x ≡ true → Accepted text
 bare_to text x e h = ap (accepts item_step item_ends Start) e ∙ h
 
-name_colon : (d text x : List ℕ) → is_description d ≡ true → text ≡ d ++ 58 ∷ x → accepts item_step item_ends Colon x ≡ true → Accepted text
+name_colon : (d text x : List ℕ) → is_description d ≡ true → text ≡ d ++ 58 ∷ x → accepts item_step item_ends Colon
+    x ≡ true → Accepted text
 name_colon d text x h e g = ap (accepts item_step item_ends Start) e ∙ (ap (holds item_ends) (to_colon d x h) ∙ g)
 
 extensible_runs : (d : Option (List ℕ)) (b : Bool) (r : Option (List ℕ)) (v flag value text : List ℕ)
-    → text ≡ part_or_nothing d ++ (flag ++ (rule_text r ++ 58 ∷ 61 ∷ value)) → IsFlag b flag → is_applicable d b r ≡ true → IsValue v value → Accepted text
+    → text ≡ part_or_nothing d ++ (flag ++ (rule_text r ++ 58 ∷ 61 ∷ value)) → IsFlag b flag → is_applicable d b r ≡
+    true → IsValue v value → Accepted text
 extensible_runs None b None v flag value text e f h s = absurd (false_true h)
 extensible_runs None false (Some r) v flag value text e f h s =
-    bare_to text (r ++ 58 ∷ 61 ∷ value) (e ∙ ap (λ x. x ++ 58 ∷ (r ++ 58 ∷ 61 ∷ value)) f) (rule_value BareColon behind_bare r h s)
+    bare_to text (r ++ 58 ∷ 61 ∷ value) (e ∙ ap (λ x. x ++ 58 ∷ (r ++ 58 ∷ 61 ∷ value)) f)
+    (rule_value BareColon behind_bare r h s)
 extensible_runs None true (Some r) v flag value text e f h s =
-    bare_to text (f.0 ++ 58 ∷ (r ++ 58 ∷ 61 ∷ value)) (e ∙ ap (λ x. x ++ 58 ∷ (r ++ 58 ∷ 61 ∷ value)) f.1) (dn_rule_value BareColon behind_bare f.0 r f.2 h s)
+    bare_to text (f.0 ++ 58 ∷ (r ++ 58 ∷ 61 ∷ value)) (e ∙ ap (λ x. x ++ 58 ∷ (r ++ 58 ∷ 61 ∷ value)) f.1)
+    (dn_rule_value BareColon behind_bare f.0 r f.2 h s)
 extensible_runs (Some d) false None v flag value text e f h s =
     name_colon d text (61 ∷ value) h (e ∙ ap (λ x. d ++ (x ++ 58 ∷ 61 ∷ value)) f) (plain_accepts s)
 extensible_runs (Some d) true None v flag value text e f h s =
-    name_colon d text (f.0 ++ 58 ∷ 61 ∷ value) h (e ∙ ap (λ x. d ++ (x ++ 58 ∷ 61 ∷ value)) f.1) (dn_value Colon behind_name f.0 f.2 s)
+    name_colon d text (f.0 ++ 58 ∷ 61 ∷ value) h (e ∙ ap (λ x. d ++ (x ++ 58 ∷ 61 ∷ value)) f.1)
+    (dn_value Colon behind_name f.0 f.2 s)
 extensible_runs (Some d) false (Some r) v flag value text e f h s =
     let p = left (is_description d && is_oid r) (false || not (is_dn r)) h in
-    name_colon d text (r ++ 58 ∷ 61 ∷ value) (left (is_description d) (is_oid r) p) (e ∙ ap (λ x. d ++ (x ++ 58 ∷ (r ++ 58 ∷ 61 ∷ value))) f)
+    name_colon d text (r ++ 58 ∷ 61 ∷ value) (left (is_description d) (is_oid r) p)
+    (e ∙ ap (λ x. d ++ (x ++ 58 ∷ (r ++ 58 ∷ 61 ∷ value))) f)
     (rule_value Colon behind_name r (right (is_description d) (is_oid r) p) s)
 extensible_runs (Some d) true (Some r) v flag value text e f h s =
     let p = left (is_description d && is_oid r) (true || not (is_dn r)) h in
-    name_colon d text (f.0 ++ 58 ∷ (r ++ 58 ∷ 61 ∷ value)) (left (is_description d) (is_oid r) p) (e ∙ ap (λ x. d ++ (x ++ 58 ∷ (r ++ 58 ∷ 61 ∷ value))) f.1)
+    name_colon d text (f.0 ++ 58 ∷ (r ++ 58 ∷ 61 ∷ value)) (left (is_description d) (is_oid r) p)
+    (e ∙ ap (λ x. d ++ (x ++ 58 ∷ (r ++ 58 ∷ 61 ∷ value))) f.1)
     (dn_rule_value Colon behind_name f.0 r f.2 (right (is_description d) (is_oid r) p) s)
 
 -- ---- items
 
-to_part : (d text x : List ℕ) → is_description d ≡ true → text ≡ d ++ 61 ∷ x → accepts item_step item_ends (Part Between) x ≡ true → Accepted text
+to_part : (d text x : List ℕ) → is_description d ≡ true → text ≡ d ++ 61 ∷ x → accepts item_step item_ends
+    (Part Between) x ≡ true → Accepted text
 to_part d text x h e g = ap (accepts item_step item_ends Start) e ∙ (ap (holds item_ends) (to_equals d x h) ∙ g)
 
 pub item_runs : (i : Item) (text : List ℕ) → IsItemText i text → accepts item_step item_ends Start text ≡ true
-item_runs (comparison k d a) text p = ap (accepts item_step item_ends Start) p.parts ∙ simple k d a p.value p.is_description p.is_value
-item_runs (substrings s) text p = to_part s.description text p.value p.is_description p.parts (starred_run s.initial s.last s.any p.value p.are_parts)
+item_runs (comparison k d a) text p = ap (accepts item_step item_ends Start) p.parts
+    ∙ simple k d a p.value p.is_description p.is_value
+item_runs (substrings s) text p = to_part s.description text p.value p.is_description p.parts
+    (starred_run s.initial s.last s.any p.value p.are_parts)
 item_runs (presence d) text p = to_part d text (42 ∷ []) p.is_description p.parts refl
-item_runs (extensible e) text p = extensible_runs e.description e.dn_attributes e.matching_rule e.match_value p.flag p.value text p.parts p.is_flag p.applies p.is_value
+item_runs (extensible e) text p = extensible_runs e.description e.dn_attributes e.matching_rule e.match_value p.flag
+    p.value text p.parts p.is_flag p.applies p.is_value

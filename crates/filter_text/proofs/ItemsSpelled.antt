@@ -37,8 +37,15 @@ record Assigned (text : List ℕ) : Type 0 where
   parts : text ≡ 61 ∷ value
   is_value : IsValue spelled value
 
-assigned_at : (b : Bool) (c : ℕ) (cs : List ℕ) → nat_eq c 61 ≡ b → taken (cond b (Some (Plain Between)) None) cs ≡ true → Assigned (c ∷ cs)
-assigned_at true c cs e h = let s = plain_spells cs h in record { value = cs; spelled = s.0; parts = ap (λ d. d ∷ cs) (eqb-true c 61 e); is_value = s.1 }
+assigned_at : (b : Bool) (c : ℕ) (cs : List ℕ) → nat_eq c 61 ≡ b → taken (cond b (Some (Plain Between)) None) cs ≡
+    true → Assigned (c ∷ cs)
+assigned_at true c cs e h = let s = plain_spells cs h in record {
+  value = cs;
+  spelled = s.0;
+  parts = ap (λ d. d ∷ cs)
+      (eqb-true c 61 e);
+  is_value = s.1;
+}
 assigned_at false c cs e h = absurd (false_true h)
 
 sign_assigned : (text : List ℕ) → Accepts Sign text → Assigned text
@@ -81,7 +88,18 @@ fits_word false r h e = h
 alone : (c : ℕ) (cs : List ℕ) → nat_eq c 61 ≡ true → Accepts (Plain Between) cs → Applied true (c ∷ cs)
 alone c cs e h =
     let s = plain_spells cs h in
-    record { dn = false; rule = None; flag = []; value = cs; spelled = s.0; parts = ap (λ d. 58 ∷ d ∷ cs) (eqb-true c 61 e); is_flag = refl; fit = refl; is_value = s.1 }
+    record {
+      dn = false;
+      rule = None;
+      flag = [];
+      value = cs;
+      spelled = s.0;
+      parts = ap (λ d. 58 ∷ d ∷ cs)
+          (eqb-true c 61 e);
+      is_flag = refl;
+      fit = refl;
+      is_value = s.1;
+    }
 
 -- a rule, a colon, `=` and a value
 a_rule : (k : Bool) (r rest : List ℕ) → is_oid r ≡ true → is_dn r ≡ false → Assigned rest → Applied k (r ++ 58 ∷ rest)
@@ -123,7 +141,8 @@ a_flag false r rest h e a = record {
 }
 
 -- `dn`, a colon, a rule, a colon, `=` and a value
-flag_and_rule : (k : Bool) (w r rest : List ℕ) → is_dn w ≡ true → is_oid r ≡ true → Assigned rest → Applied k (w ++ 58 ∷ (r ++ 58 ∷ rest))
+flag_and_rule : (k : Bool) (w r rest : List ℕ) → is_dn w ≡ true → is_oid r ≡ true → Assigned rest →
+    Applied k (w ++ 58 ∷ (r ++ 58 ∷ rest))
 flag_and_rule k w r rest e h a = record {
   dn = true;
   rule = Some r;
@@ -141,7 +160,8 @@ record Left (o : OidPlace) (c : ℕ) : Type 0 where
   done : oid_ends o ≡ true
   is : c ≡ 58
 
-left_at : {p after : ItemPlace} (e b : Bool) (o : OidPlace) (c : ℕ) → oid_ends o ≡ e → nat_eq c 58 ≡ b → cond e (cond b (Some p) None) None ≡ Some after → Left o c × (p ≡ after)
+left_at : {p after : ItemPlace} (e b : Bool) (o : OidPlace) (c : ℕ) → oid_ends o ≡ e → nat_eq c 58 ≡ b →
+    cond e (cond b (Some p) None) None ≡ Some after → Left o c × (p ≡ after)
 left_at true true o c e f h = (record { done = e; is = eqb-true c 58 f }, some_same h)
 left_at true false o c e f h = absurd (none_some h)
 left_at false b o c e f h = absurd (none_some h)
@@ -166,35 +186,42 @@ last_of c cs o e h =
       assigned = assign_assigned k.rest (ap (λ p. accepts item_step item_ends p k.rest) l.1 ∙ k.accepted);
     }
 
-behind_dn_rule : (r : Option OidPlace) (k : Bool) (w : List ℕ) (c : ℕ) (cs : List ℕ) → oid_first c ≡ r → is_dn w ≡ true → taken (option_map LastRule r) cs ≡ true → Applied k (w ++ 58 ∷ c ∷ cs)
+behind_dn_rule : (r : Option OidPlace) (k : Bool) (w : List ℕ) (c : ℕ) (cs : List ℕ) → oid_first c ≡ r →
+    is_dn w ≡ true → taken (option_map LastRule r) cs ≡ true → Applied k (w ++ 58 ∷ c ∷ cs)
 behind_dn_rule None k w c cs e d h = absurd (false_true h)
-behind_dn_rule (Some o) k w c cs e d h = let l = last_of c cs o e h in subst (λ x. Applied k (w ++ 58 ∷ x)) (sym l.parts) (flag_and_rule k w l.rule l.rest d l.is_rule l.assigned)
+behind_dn_rule (Some o) k w c cs e d h = let l = last_of c cs o e h in subst (λ x. Applied k (w ++ 58 ∷ x))
+    (sym l.parts) (flag_and_rule k w l.rule l.rest d l.is_rule l.assigned)
 
 behind_dn_at : (b k : Bool) (w : List ℕ) (c : ℕ) (cs : List ℕ) → nat_eq c 61 ≡ b → is_oid w ≡ true → is_dn w ≡ true
     → taken (cond b (Some (Plain Between)) (option_map LastRule (oid_first c))) cs ≡ true → Applied k (w ++ 58 ∷ c ∷ cs)
 behind_dn_at true k w c cs e o d h = a_flag k w (c ∷ cs) o d (assigned_at true c cs e h)
 behind_dn_at false k w c cs e o d h = behind_dn_rule (oid_first c) k w c cs refl d h
 
-behind_dn : (k : Bool) (w rest : List ℕ) → is_oid w ≡ true → is_dn w ≡ true → Accepts DnColon rest → Applied k (w ++ 58 ∷ rest)
+behind_dn : (k : Bool) (w rest : List ℕ) → is_oid w ≡ true → is_dn w ≡ true → Accepts DnColon rest →
+    Applied k (w ++ 58 ∷ rest)
 behind_dn k w [] o d h = absurd (false_true h)
 behind_dn k w (c ∷ cs) o d h = behind_dn_at (nat_eq c 61) k w c cs refl o d h
 
 -- a word and a colon
-behind_a_word : (word : Word) (k : Bool) (w rest : List ℕ) → is_oid w ≡ true → is_dn w ≡ is_dn_word word → Accepts (behind_word word) rest → Applied k (w ++ 58 ∷ rest)
+behind_a_word : (word : Word) (k : Bool) (w rest : List ℕ) → is_oid w ≡ true → is_dn w ≡ is_dn_word word →
+    Accepts (behind_word word) rest → Applied k (w ++ 58 ∷ rest)
 behind_a_word OnlyD k w rest o e h = a_rule k w rest o e (assign_assigned rest h)
 behind_a_word Dn k w rest o e h = behind_dn k w rest o e h
 behind_a_word Other k w rest o e h = a_rule k w rest o e (assign_assigned rest h)
 
-a_word : (k : Bool) (c : ℕ) (cs : List ℕ) (o : OidPlace) → oid_first c ≡ Some o → Accepts (Rule (word_first c) o) cs → Applied k (c ∷ cs)
+a_word : (k : Bool) (c : ℕ) (cs : List ℕ) (o : OidPlace) → oid_first c ≡ Some o → Accepts (Rule (word_first c) o) cs →
+    Applied k (c ∷ cs)
 a_word k c cs o e h =
     let t = cut word_oid item_step item_ends put_rule out_of_rule rule_inside (λ s. refl) (word_first c, o) cs h in
     let l = left_at (oid_ends t.place.1) (nat_eq t.next 58) t.place.1 t.next refl refl t.left in
     let u = unworded (word_first c) o t.place t.front t.ran in
     let same = ap (λ x. c ∷ x) t.parts ∙ ap (λ d. c ∷ (t.front ++ d ∷ t.rest)) l.0.is in
     subst (Applied k) (sym same)
-    (behind_a_word t.place.0 k (c ∷ t.front) t.rest (is_oid_run c t.front o t.place.1 e u.0 l.0.done) (dn_word c t.front ∙ ap is_dn_word (sym u.1)) (ap (λ p. accepts item_step item_ends p t.rest) l.1 ∙ t.accepted))
+    (behind_a_word t.place.0 k (c ∷ t.front) t.rest (is_oid_run c t.front o t.place.1 e u.0 l.0.done)
+    (dn_word c t.front ∙ ap is_dn_word (sym u.1)) (ap (λ p. accepts item_step item_ends p t.rest) l.1 ∙ t.accepted))
 
-rule_at : (r : Option OidPlace) (k : Bool) (c : ℕ) (cs : List ℕ) → oid_first c ≡ r → taken (option_map (λ o. Rule (word_first c) o) r) cs ≡ true → Applied k (c ∷ cs)
+rule_at : (r : Option OidPlace) (k : Bool) (c : ℕ) (cs : List ℕ) → oid_first c ≡ r →
+    taken (option_map (λ o. Rule (word_first c) o) r) cs ≡ true → Applied k (c ∷ cs)
 rule_at None k c cs e h = absurd (false_true h)
 rule_at (Some o) k c cs e h = a_word k c cs o e h
 
@@ -202,7 +229,8 @@ bare_applied : (text : List ℕ) → Accepts BareColon text → Applied false te
 bare_applied [] h = absurd (false_true h)
 bare_applied (c ∷ cs) h = rule_at (oid_first c) false c cs refl h
 
-colon_at : (b : Bool) (c : ℕ) (cs : List ℕ) → nat_eq c 61 ≡ b → taken (cond b (Some (Plain Between)) (rule_first c)) cs ≡ true → Applied true (c ∷ cs)
+colon_at : (b : Bool) (c : ℕ) (cs : List ℕ) → nat_eq c 61 ≡ b → taken (cond b (Some (Plain Between)) (rule_first c))
+    cs ≡ true → Applied true (c ∷ cs)
 colon_at true c cs e h = alone c cs e h
 colon_at false c cs e h = rule_at (oid_first c) true c cs refl h
 
@@ -215,36 +243,57 @@ colon_applied (c ∷ cs) h = colon_at (nat_eq c 61) c cs refl h
 bare_item : (text x : List ℕ) → text ≡ 58 ∷ x → Applied false x → Some_item text
 bare_item text x e a = bare_rule a.rule e a.parts a.fit
   where
-    bare_rule : (r : Option (List ℕ)) → text ≡ 58 ∷ x → 58 ∷ x ≡ a.flag ++ (rule_text r ++ 58 ∷ 61 ∷ a.value) → fits false a.dn r ≡ true → Some_item text
+    bare_rule : (r : Option (List ℕ)) → text ≡ 58 ∷ x → 58 ∷ x ≡ a.flag ++ (rule_text r ++ 58 ∷ 61 ∷ a.value) →
+        fits false a.dn r ≡ true → Some_item text
     bare_rule None f p h = absurd (false_true h)
     bare_rule (Some r) f p h = (
       extensible (record { matching_rule = Some r; description = None; match_value = a.spelled; dn_attributes = a.dn }),
       record { flag = a.flag; value = a.value; parts = f ∙ p; is_flag = a.is_flag; applies = h; is_value = a.is_value },
     )
 
-described_fits : (d : List ℕ) (b : Bool) (r : Option (List ℕ)) → is_description d ≡ true → fits true b r ≡ true → is_applicable (Some d) b r ≡ true
+described_fits : (d : List ℕ) (b : Bool) (r : Option (List ℕ)) → is_description d ≡ true → fits true b r ≡ true →
+    is_applicable (Some d) b r ≡ true
 described_fits d b None h f = h
 described_fits d b (Some r) h f =
-    both (is_description d && is_oid r) (b || not (is_dn r)) (both (is_description d) (is_oid r) h (left (is_oid r) (b || not (is_dn r)) f)) (right (is_oid r) (b || not (is_dn r)) f)
+    both (is_description d && is_oid r) (b || not (is_dn r)) (both (is_description d) (is_oid r) h
+    (left (is_oid r) (b || not (is_dn r)) f)) (right (is_oid r) (b || not (is_dn r)) f)
 
 described_item : (d text x : List ℕ) → is_description d ≡ true → text ≡ d ++ 58 ∷ x → Applied true x → Some_item text
 described_item d text x h e a = (
   extensible (record { matching_rule = a.rule; description = Some d; match_value = a.spelled; dn_attributes = a.dn }),
-  record { flag = a.flag; value = a.value; parts = e ∙ ap (λ y. d ++ y) a.parts; is_flag = a.is_flag; applies = described_fits d a.dn a.rule h a.fit; is_value = a.is_value },
+  record {
+    flag = a.flag;
+    value = a.value;
+    parts = e ∙ ap (λ y. d ++ y) a.parts;
+    is_flag = a.is_flag;
+    applies =
+        described_fits d a.dn a.rule h a.fit;
+    is_value = a.is_value;
+  },
 )
 
 -- ---- the item of an operator
 
-sign_comparison : (a b e : Bool) (c : ℕ) → nat_eq c 62 ≡ a → nat_eq c 60 ≡ b → nat_eq c 126 ≡ e → (a || b || e) ≡ true → (k : Comparison) × (operator k ≡ c ∷ 61 ∷ [])
+sign_comparison : (a b e : Bool) (c : ℕ) → nat_eq c 62 ≡ a → nat_eq c 60 ≡ b → nat_eq c 126 ≡ e → (a || b || e) ≡
+    true → (k : Comparison) × (operator k ≡ c ∷ 61 ∷ [])
 sign_comparison true b e c f g h s = (at_least, ap (λ d. d ∷ 61 ∷ []) (sym (eqb-true c 62 f)))
 sign_comparison false true e c f g h s = (at_most, ap (λ d. d ∷ 61 ∷ []) (sym (eqb-true c 60 g)))
 sign_comparison false false true c f g h s = (approximate, ap (λ d. d ∷ 61 ∷ []) (sym (eqb-true c 126 h)))
 sign_comparison false false false c f g h s = absurd (false_true s)
 
-compared_item : (d text x : List ℕ) (c : ℕ) → is_description d ≡ true → text ≡ d ++ c ∷ x → is_sign c ≡ true → Assigned x → Some_item text
+compared_item : (d text x : List ℕ) (c : ℕ) → is_description d ≡ true → text ≡ d ++ c ∷ x → is_sign c ≡ true →
+    Assigned x → Some_item text
 compared_item d text x c h e s a =
-    let k = sign_comparison (nat_eq c 62) (nat_eq c 60) (nat_eq c 126) c refl refl refl s in
-    (comparison k.0 d a.spelled, record { value = a.value; parts = e ∙ ap (λ y. d ++ c ∷ y) a.parts ∙ ap (λ y. d ++ (y ++ a.value)) (sym k.1); is_description = h; is_value = a.is_value })
+    let k = sign_comparison (nat_eq c 62) (nat_eq c 60) (nat_eq c 126) c refl refl refl s in (
+      comparison k.0 d a.spelled,
+      record {
+        value = a.value;
+        parts = e ∙ ap (λ y. d ++ c ∷ y) a.parts
+            ∙ ap (λ y. d ++ (y ++ a.value)) (sym k.1);
+        is_description = h;
+        is_value = a.is_value;
+      },
+    )
 
 -- ---- the item of `=`
 
@@ -253,55 +302,118 @@ some_octet nothing e = refl
 some_octet (normal c f s) e = cc
 some_octet (escaped h l c f s) e = cc
 
-tail_item : (any : List (List ℕ)) (last : Option (List ℕ)) (d text x before behind : List ℕ) → is_description d ≡ true → text ≡ d ++ 61 ∷ x → x ≡ before ++ 42 ∷ behind → before ≡ []
+tail_item : (any : List (List ℕ)) (last : Option (List ℕ)) (d text x before behind : List ℕ) → is_description d ≡
+    true → text ≡ d ++ 61 ∷ x → x ≡ before ++ 42 ∷ behind → before ≡ []
     → AreParts any last behind → Some_item text
-tail_item [] None d text x before behind h e f g p =
-    (presence d, record { parts = e ∙ ap (λ y. d ++ 61 ∷ y) f ∙ ap (λ y. d ++ 61 ∷ (y ++ 42 ∷ behind)) g ∙ ap (λ y. d ++ 61 ∷ 42 ∷ y) p; is_description = h })
+tail_item [] None d text x before behind h e f g p = (
+  presence d,
+  record {
+    parts = e ∙ ap (λ y. d ++ 61 ∷ y) f ∙ ap (λ y. d ++ 61 ∷ (y ++ 42 ∷ behind)) g
+        ∙ ap (λ y. d ++ 61 ∷ 42 ∷ y) p;
+    is_description = h;
+  },
+)
 tail_item [] (Some v) d text x before behind h e f g p = (
   substrings (record { description = d; initial = None; any = []; last = Some v }),
-  record { value = x; parts = e; is_description = h; are_parts = record { before = before; behind = behind; parts = f; is_before = g; is_behind = p }; some = refl },
+  record {
+    value = x;
+    parts = e;
+    is_description = h;
+    are_parts = record {
+      before = before;
+      behind = behind;
+      parts =
+          f;
+      is_before = g;
+      is_behind = p;
+    };
+    some = refl;
+  },
 )
 tail_item (u ∷ us) last d text x before behind h e f g p = (
   substrings (record { description = d; initial = None; any = u ∷ us; last = last }),
-  record { value = x; parts = e; is_description = h; are_parts = record { before = before; behind = behind; parts = f; is_before = g; is_behind = p }; some = refl },
+  record {
+    value = x;
+    parts = e;
+    is_description = h;
+    are_parts = record {
+      before = before;
+      behind = behind;
+      parts =
+          f;
+      is_before = g;
+      is_behind = p;
+    };
+    some = refl;
+  },
 )
 
-split_item : (value : List ℕ) (d text x before behind : List ℕ) → is_description d ≡ true → text ≡ d ++ 61 ∷ x → x ≡ before ++ 42 ∷ behind → IsValue value before → Tail behind → Some_item text
-split_item [] d text x before behind h e f s t = tail_item t.any t.last d text x before behind h e f (some_octet s refl) t.are_parts
+split_item : (value : List ℕ) (d text x before behind : List ℕ) → is_description d ≡ true → text ≡ d ++ 61 ∷ x →
+    x ≡ before ++ 42 ∷ behind → IsValue value before → Tail behind → Some_item text
+split_item [] d text x before behind h e f s t = tail_item t.any t.last d text x before behind h e f
+    (some_octet s refl) t.are_parts
 split_item (c ∷ cs) d text x before behind h e f s t = (
   substrings (record { description = d; initial = Some (c ∷ cs); any = t.any; last = t.last }),
   record {
     value = x;
     parts = e;
     is_description = h;
-    are_parts = record { before = before; behind = behind; parts = f; is_before = record { is_value = s; is_some = λ g. cc }; is_behind = t.are_parts };
+    are_parts = record {
+      before = before;
+      behind = behind;
+      parts = f;
+      is_before = record {
+        is_value = s;
+        is_some =
+            λ g. cc;
+      };
+      is_behind = t.are_parts;
+    };
     some = refl;
   },
 )
 
 equals_item : (d text x : List ℕ) → is_description d ≡ true → text ≡ d ++ 61 ∷ x → Either x → Some_item text
-equals_item d text x h e (inl s) = (comparison equal d s.0, record { value = x; parts = e; is_description = h; is_value = s.1 })
+equals_item d text x h e (inl s) = (
+  comparison equal d s.0,
+  record {
+    value = x;
+    parts = e;
+    is_description =
+        h;
+    is_value = s.1;
+  },
+)
 equals_item d text x h e (inr s) = split_item s.value d text x s.before s.behind h e s.parts s.is_value s.tail
 
 -- ---- items
 
-name_item_at : (n a b s : Bool) (d text x : List ℕ) (c : ℕ) (p : ItemPlace) → is_description d ≡ true → text ≡ d ++ c ∷ x → nat_eq c 61 ≡ a → nat_eq c 58 ≡ b → is_sign c ≡ s
-    → cond n (cond a (Some (Part Between)) (cond b (Some Colon) (cond s (Some Sign) None))) None ≡ Some p → Accepts p x → Some_item text
+name_item_at : (n a b s : Bool) (d text x : List ℕ) (c : ℕ) (p : ItemPlace) → is_description d ≡ true →
+    text ≡ d ++ c ∷ x → nat_eq c 61 ≡ a → nat_eq c 58 ≡ b → is_sign c ≡ s
+    → cond n (cond a (Some (Part Between)) (cond b (Some Colon) (cond s (Some Sign) None))) None ≡ Some p →
+    Accepts p x → Some_item text
 name_item_at false a b s d text x c p h e f g k q acc = absurd (none_some q)
 name_item_at true true b s d text x c p h e f g k q acc =
-    equals_item d text x h (e ∙ ap (λ y. d ++ y ∷ x) (eqb-true c 61 f)) (part_spells x (ap (λ r. accepts item_step item_ends r x) (some_same q) ∙ acc))
+    equals_item d text x h (e ∙ ap (λ y. d ++ y ∷ x) (eqb-true c 61 f))
+    (part_spells x (ap (λ r. accepts item_step item_ends r x) (some_same q) ∙ acc))
 name_item_at true false true s d text x c p h e f g k q acc =
-    described_item d text x h (e ∙ ap (λ y. d ++ y ∷ x) (eqb-true c 58 g)) (colon_applied x (ap (λ r. accepts item_step item_ends r x) (some_same q) ∙ acc))
-name_item_at true false false true d text x c p h e f g k q acc = compared_item d text x c h e k (sign_assigned x (ap (λ r. accepts item_step item_ends r x) (some_same q) ∙ acc))
+    described_item d text x h (e ∙ ap (λ y. d ++ y ∷ x) (eqb-true c 58 g))
+    (colon_applied x (ap (λ r. accepts item_step item_ends r x) (some_same q) ∙ acc))
+name_item_at true false false true d text x c p h e f g k q acc = compared_item d text x c h e k
+    (sign_assigned x (ap (λ r. accepts item_step item_ends r x) (some_same q) ∙ acc))
 name_item_at true false false false d text x c p h e f g k q acc = absurd (none_some q)
 
 name_item : (c : ℕ) (cs : List ℕ) (o : OidPlace) → oid_first c ≡ Some o → Accepts (Name (Oid o)) cs → Some_item (c ∷ cs)
 name_item c cs o e h =
     let k = cut name_step item_step item_ends Name name_out (λ s d. refl) (λ s. refl) (Oid o) cs h in
-    name_item_at (name_ends k.place) (nat_eq k.next 61) (nat_eq k.next 58) (is_sign k.next) (c ∷ k.front) (c ∷ cs) k.rest k.next k.after
-    (is_name_run c k.front o k.place e k.ran (ends_at (name_ends k.place) k.next k.after k.left)) (ap (λ x. c ∷ x) k.parts) refl refl refl k.left k.accepted
+    name_item_at (name_ends k.place) (nat_eq k.next 61) (nat_eq k.next 58) (is_sign k.next) (c ∷ k.front) (c ∷ cs)
+    k.rest k.next k.after
+    (is_name_run c k.front o k.place e k.ran (ends_at (name_ends k.place) k.next k.after k.left))
+    (ap (λ x. c ∷ x) k.parts) refl refl refl k.left k.accepted
   where
-    ends_at : (n : Bool) (d : ℕ) (p : ItemPlace) → cond n (cond (nat_eq d 61) (Some (Part Between)) (cond (nat_eq d 58) (Some Colon) (cond (is_sign d) (Some Sign) None))) None ≡ Some p → n ≡ true
+    ends_at : (n : Bool) (d : ℕ) (p : ItemPlace) →
+        cond n (cond (nat_eq d 61) (Some (Part Between)) (cond (nat_eq d 58) (Some Colon)
+        (cond (is_sign d) (Some Sign) None))) None ≡ Some p → n ≡ true
     ends_at true d p q = refl
     ends_at false d p q = absurd (none_some q)
 

@@ -1,4 +1,5 @@
--- Filter texts, scanning: from each place some text goes on to a filter's, so the scanner stops behind the longest front.
+-- Filter texts, scanning: from each place some text goes on to a filter's, so the scanner stops behind the longest
+-- front.
 use Rattle.std.proofs.Common.{◌≡◌, ℕ, ◌+◌, ◌<◌, ◌≤◌, zero, suc, List, [], ◌∷◌, ◌++◌, length, take, Bool, true, false, cond, Option, None, Some, refl, sym, ap, subst, ◌∙◌, arith}
 use Rattle.ldap_filter.specs.Tree.{Tree}
 use Rattle.filter_text.specs.Grammar.{IsFilterText}
@@ -131,10 +132,12 @@ finish Inside around = 38 ∷ 41 ∷ closing around
 finish (InItem s) around = finish_item s ++ 41 ∷ closing around
 finish Behind around = closing around
 
-live_at : (p : ScanState) (around : List Around) → accepts filter_step filter_ends (at p around) (finish p around) ≡ true
+live_at : (p : ScanState) (around : List Around) → accepts filter_step filter_ends (at p around) (finish p around) ≡
+    true
 live_at Opening around = closing_live around
 live_at Inside around = closing_live around
-live_at (InItem s) around = ap (holds filter_ends) (item_close around s (finish_item s) (closing around) (item_live s)) ∙ closing_live around
+live_at (InItem s) around = ap (holds filter_ends) (item_close around s (finish_item s) (closing around)
+    (item_live s)) ∙ closing_live around
 live_at Behind around = closing_live around
 
 -- ---- where a machine stops whose every place goes on to a text
@@ -154,7 +157,8 @@ record StopsAt {S : Type 0} (step : S → ℕ → Option S) (ends : S → Bool) 
 abbrev Goes : {S : Type 0} → (S → ℕ → Option S) → (S → Bool) → Type 0
 Goes {S} step ends = (s : S) → (text : List ℕ) × (accepts step ends s text ≡ true)
 
-end_at : {S : Type 0} (step : S → ℕ → Option S) (ends : S → Bool) → Goes step ends → (b : Bool) (s : S) (k n : ℕ) → ends s ≡ b → cond b None (Some k) ≡ Some n → StopsAt step ends s [] k n
+end_at : {S : Type 0} (step : S → ℕ → Option S) (ends : S → Bool) → Goes step ends → (b : Bool) (s : S) (k n : ℕ) →
+    ends s ≡ b → cond b None (Some k) ≡ Some n → StopsAt step ends s [] k n
 end_at step ends goes true s k n e h = absurd (none_some h)
 end_at step ends goes false s k n e h = record {
   count = 0;
@@ -168,16 +172,22 @@ end_at step ends goes false s k n e h = record {
   };
 }
 
-stuck : {S : Type 0} (step : S → ℕ → Option S) (ends : S → Bool) (s : S) (c : ℕ) (cs : List ℕ) → step s c ≡ None → (n : ℕ) → 0 < n → (rest : List ℕ) → accepts step ends s (take n (c ∷ cs) ++ rest) ≡ true → ⊥
+stuck : {S : Type 0} (step : S → ℕ → Option S) (ends : S → Bool) (s : S) (c : ℕ) (cs : List ℕ) → step s c ≡ None →
+    (n : ℕ) → 0 < n → (rest : List ℕ) → accepts step ends s (take n (c ∷ cs) ++ rest) ≡ true → ⊥
 stuck step ends s c cs e zero p rest a = omega (arith, p)
-stuck step ends s c cs e (suc n) p rest a = false_true (sym (ap (λ o. holds ends (option_and_then (λ t. run step t (take n cs ++ rest)) o)) e) ∙ a)
+stuck step ends s c cs e (suc n) p rest a =
+    false_true (sym (ap (λ o. holds ends (option_and_then (λ t. run step t (take n cs ++ rest)) o)) e) ∙ a)
 
-beyond : {S : Type 0} (step : S → ℕ → Option S) (ends : S → Bool) (s t : S) (c : ℕ) (cs : List ℕ) (m : ℕ) → step s c ≡ Some t → IsStop step ends t cs m
-    → (n : ℕ) → suc m < n → n ≤ length (c ∷ cs) → (rest : List ℕ) → accepts step ends s (take n (c ∷ cs) ++ rest) ≡ true → ⊥
+beyond : {S : Type 0} (step : S → ℕ → Option S) (ends : S → Bool) (s t : S) (c : ℕ) (cs : List ℕ) (m : ℕ) →
+    step s c ≡ Some t → IsStop step ends t cs m
+    → (n : ℕ) → suc m < n → n ≤ length (c ∷ cs) → (rest : List ℕ) → accepts step ends s (take n (c ∷ cs) ++ rest) ≡
+    true → ⊥
 beyond step ends s t c cs m e i zero p q rest a = omega (arith, p)
-beyond step ends s t c cs m e i (suc n) p q rest a = i.no_more n (omega (arith, p)) (omega (arith, q)) rest (sym (ap (holds ends) (one_step step s t c (take n cs ++ rest) e)) ∙ a)
+beyond step ends s t c cs m e i (suc n) p q rest a = i.no_more n (omega (arith, p)) (omega (arith, q)) rest
+    (sym (ap (holds ends) (one_step step s t c (take n cs ++ rest) e)) ∙ a)
 
-step_at : {S : Type 0} (step : S → ℕ → Option S) (ends : S → Bool) → Goes step ends → (o : Option S) (s : S) (c : ℕ) (cs : List ℕ) (k n : ℕ) → step s c ≡ o
+step_at : {S : Type 0} (step : S → ℕ → Option S) (ends : S → Bool) → Goes step ends → (o : Option S) (s : S) (c : ℕ)
+    (cs : List ℕ) (k n : ℕ) → step s c ≡ o
     → ((t : S) → stops step ends (k + 1) t cs ≡ Some n → StopsAt step ends t cs (k + 1) n)
     → goes_on k o (λ t. stops step ends (k + 1) t cs) ≡ Some n → StopsAt step ends s (c ∷ cs) k n
 step_at step ends goes None s c cs k n e more h = record {
@@ -205,9 +215,11 @@ step_at step ends goes (Some t) s c cs k n e more h =
       };
     }
 
-stops_is : {S : Type 0} (step : S → ℕ → Option S) (ends : S → Bool) → Goes step ends → (k : ℕ) (s : S) (text : List ℕ) (n : ℕ) → stops step ends k s text ≡ Some n → StopsAt step ends s text k n
+stops_is : {S : Type 0} (step : S → ℕ → Option S) (ends : S → Bool) → Goes step ends → (k : ℕ) (s : S) (text : List ℕ)
+    (n : ℕ) → stops step ends k s text ≡ Some n → StopsAt step ends s text k n
 stops_is step ends goes k s [] n h = end_at step ends goes (ends s) s k n refl h
-stops_is step ends goes k s (c ∷ cs) n h = step_at step ends goes (step s c) s c cs k n refl (λ t g. stops_is step ends goes (k + 1) t cs n g) h
+stops_is step ends goes k s (c ∷ cs) n h = step_at step ends goes (step s c) s c cs k n refl
+    (λ t g. stops_is step ends goes (k + 1) t cs n g) h
 
 -- where it does not stop, the text is accepted
 
@@ -215,15 +227,18 @@ end_none : (b : Bool) (k : ℕ) → cond b None (Some k) ≡ None → b ≡ true
 end_none true k h = refl
 end_none false k h = absurd (none_some (sym h))
 
-none_at : {S : Type 0} (step : S → ℕ → Option S) (ends : S → Bool) (o : Option S) (s : S) (c : ℕ) (cs : List ℕ) (k : ℕ) → step s c ≡ o
+none_at : {S : Type 0} (step : S → ℕ → Option S) (ends : S → Bool) (o : Option S) (s : S) (c : ℕ) (cs : List ℕ)
+    (k : ℕ) → step s c ≡ o
     → ((t : S) → stops step ends (k + 1) t cs ≡ None → accepts step ends t cs ≡ true)
     → goes_on k o (λ t. stops step ends (k + 1) t cs) ≡ None → accepts step ends s (c ∷ cs) ≡ true
 none_at step ends None s c cs k e more h = absurd (none_some (sym h))
 none_at step ends (Some t) s c cs k e more h = ap (holds ends) (one_step step s t c cs e) ∙ more t h
 
-none_accepts : {S : Type 0} (step : S → ℕ → Option S) (ends : S → Bool) (k : ℕ) (s : S) (text : List ℕ) → stops step ends k s text ≡ None → accepts step ends s text ≡ true
+none_accepts : {S : Type 0} (step : S → ℕ → Option S) (ends : S → Bool) (k : ℕ) (s : S) (text : List ℕ) →
+    stops step ends k s text ≡ None → accepts step ends s text ≡ true
 none_accepts step ends k s [] h = end_none (ends s) k h
-none_accepts step ends k s (c ∷ cs) h = none_at step ends (step s c) s c cs k refl (λ t g. none_accepts step ends (k + 1) t cs g) h
+none_accepts step ends k s (c ∷ cs) h = none_at step ends (step s c) s c cs k refl (λ t g. none_accepts step ends
+    (k + 1) t cs g) h
 
 -- ---- the scanner of filters
 
@@ -233,7 +248,8 @@ scanned text = stops filter_step filter_ends 0 (at Opening []) text
 goes : Goes filter_step filter_ends
 goes s = (finish s.place s.around, live_at s.place s.around)
 
-begins : (text : List ℕ) (n : ℕ) (rest : List ℕ) → accepts filter_step filter_ends (at Opening []) (take n text ++ rest) ≡ true → Begins text n
+begins : (text : List ℕ) (n : ℕ) (rest : List ℕ) → accepts filter_step filter_ends (at Opening [])
+    (take n text ++ rest) ≡ true → Begins text n
 begins text n rest h = let f = accepted_filter (take n text ++ rest) h in (f.0, rest, f.1)
 
 longest : (text : List ℕ) (n : ℕ) → IsStop filter_step filter_ends (at Opening []) text n → IsLongestFront text n
@@ -250,7 +266,8 @@ stopped_longest text n h =
     subst (IsLongestFront text) (sym e) (longest text s.count s.is)
 
 pub stopped_no_text : (text : List ℕ) (n : ℕ) → scanned text ≡ Some n → (t : Tree) → IsFilterText t text → ⊥
-stopped_no_text text n h t p = let s = stops_is filter_step filter_ends goes 0 (at Opening []) text n h in s.is.refuses (filter_accepted t text p)
+stopped_no_text text n h t p = let s = stops_is filter_step filter_ends goes 0 (at Opening []) text n h
+    in s.is.refuses (filter_accepted t text p)
 
 pub passed_text : (text : List ℕ) → scanned text ≡ None → (t : Tree) × IsFilterText t text
 passed_text text h = accepted_filter text (none_accepts filter_step filter_ends 0 (at Opening []) text h)

@@ -52,16 +52,19 @@ zero_number (c ∷ cs) = refl
 digits_number : (c : ℕ) → is_digit c ≡ true → nat_eq c 48 ≡ false → (x : List ℕ) → is_number (c ∷ x) ≡ are_digits x
 digits_number c d e [] = d
 digits_number c d e (b ∷ bs) =
-    ap (λ a. a && are_digits (b ∷ bs)) (both (nat_lt 48 c) (nat_le c 57) (above_zero c d e) (right (nat_le 48 c) (nat_le c 57) d))
+    ap (λ a. a && are_digits (b ∷ bs)) (both (nat_lt 48 c) (nat_le c 57) (above_zero c d e)
+    (right (nat_le 48 c) (nat_le c 57) d))
 
 lt_false : (b : Bool) (c : ℕ) → nat_le 48 c ≡ b → nat_lt 48 c ≡ true → b ≡ true
 lt_false true c e h = refl
 lt_false false c e h = absurd (false_true (sym e ∙ le-leb 48 c (let x = leb-true 49 c h in omega (arith, x))))
 
-no_number_at : (a b : Bool) (c : ℕ) (cs : List ℕ) → nat_lt 48 c ≡ a → nat_le c 57 ≡ b → is_digit c ≡ false → (a && b && are_digits cs) ≡ false
+no_number_at : (a b : Bool) (c : ℕ) (cs : List ℕ) → nat_lt 48 c ≡ a → nat_le c 57 ≡ b → is_digit c ≡ false →
+    (a && b && are_digits cs) ≡ false
 no_number_at false b c cs e f d = refl
 no_number_at true false c cs e f d = refl
-no_number_at true true c cs e f d = absurd (false_true (sym d ∙ both (nat_le 48 c) (nat_le c 57) (lt_false (nat_le 48 c) c refl e) f))
+no_number_at true true c cs e f d =
+    absurd (false_true (sym d ∙ both (nat_le 48 c) (nat_le c 57) (lt_false (nat_le 48 c) c refl e) f))
 
 no_number : (c : ℕ) → is_digit c ≡ false → (x : List ℕ) → is_number (c ∷ x) ≡ false
 no_number c d [] = d
@@ -76,12 +79,16 @@ no_digits c d x = ap (λ b. b && are_digits x) d
 -- ---- behind a dot
 
 dot_at : (z d p : Bool) (c : ℕ) (cs : List ℕ) → nat_eq c 48 ≡ z → is_digit c ≡ d → nat_eq c 46 ≡ p
-    → ends_well DottedZero cs ≡ parts is_empty is_number (split cs) → ends_well DottedNumber cs ≡ parts are_digits is_number (split cs)
+    → ends_well DottedZero cs ≡ parts is_empty is_number (split cs) → ends_well DottedNumber cs ≡ parts are_digits
+    is_number (split cs)
     → led (cond z (Some DottedZero) (cond d (Some DottedNumber) None)) cs ≡ parts is_number is_number (at_split p c cs)
 dot_at true d true c cs z e p h k = absurd (false_true (sym (zero_digit c z) ∙ p))
-dot_at true d false c cs z e p h k = h ∙ sym (onto is_number is_empty is_number c (λ x. ap (λ b. is_number (b ∷ x)) (eqb-true c 48 z) ∙ zero_number x) (split cs))
+dot_at true d false c cs z e p h k = h
+    ∙ sym (onto is_number is_empty is_number c (λ x. ap (λ b. is_number (b ∷ x)) (eqb-true c 48 z) ∙ zero_number x)
+    (split cs))
 dot_at false true true c cs z e p h k = absurd (false_true (sym (no_digit c p) ∙ e))
-dot_at false true false c cs z e p h k = k ∙ sym (onto is_number are_digits is_number c (digits_number c e z) (split cs))
+dot_at false true false c cs z e p h k = k ∙ sym (onto is_number are_digits is_number c (digits_number c e z)
+    (split cs))
 dot_at false false true c cs z e p h k = refl
 dot_at false false false c cs z e p h k = sym (onto_never is_number is_number c (no_number c e) (split cs))
 
@@ -90,7 +97,8 @@ zero_at : (p : Bool) (c : ℕ) (cs : List ℕ) → nat_eq c 46 ≡ p → ends_we
 zero_at true c cs p h = h ∙ parts_all is_number 46 cs
 zero_at false c cs p h = sym (onto_never is_empty is_number c (λ x. refl) (split cs))
 
-number_at : (d p : Bool) (c : ℕ) (cs : List ℕ) → is_digit c ≡ d → nat_eq c 46 ≡ p → ends_well Dot cs ≡ parts is_number is_number (split cs)
+number_at : (d p : Bool) (c : ℕ) (cs : List ℕ) → is_digit c ≡ d → nat_eq c 46 ≡ p → ends_well Dot cs ≡ parts is_number
+    is_number (split cs)
     → ends_well DottedNumber cs ≡ parts are_digits is_number (split cs)
     → led (cond d (Some DottedNumber) (cond p (Some Dot) None)) cs ≡ parts are_digits is_number (at_split p c cs)
 number_at true true c cs d p h k = absurd (false_true (sym (no_digit c p) ∙ d))
@@ -101,7 +109,8 @@ number_at false false c cs d p h k = sym (onto_never are_digits is_number c (no_
 mutual
   behind_dot : (cs : List ℕ) → ends_well Dot cs ≡ parts is_number is_number (split cs)
   behind_dot [] = refl
-  behind_dot (c ∷ cs) = dot_at (nat_eq c 48) (is_digit c) (nat_eq c 46) c cs refl refl refl (behind_zero cs) (behind_digit cs)
+  behind_dot (c ∷ cs) = dot_at (nat_eq c 48) (is_digit c) (nat_eq c 46) c cs refl refl refl (behind_zero cs)
+      (behind_digit cs)
 
   behind_zero : (cs : List ℕ) → ends_well DottedZero cs ≡ parts is_empty is_number (split cs)
   behind_zero [] = refl
@@ -117,20 +126,27 @@ and_false : (b : Bool) → (b && false) ≡ false
 and_false true = refl
 and_false false = refl
 
-first_zero_at : (p : Bool) (c : ℕ) (cs : List ℕ) → nat_eq c 46 ≡ p → led (cond p (Some Dot) None) cs ≡ ((p || has_dot cs) && parts is_empty is_number (at_split p c cs))
+first_zero_at : (p : Bool) (c : ℕ) (cs : List ℕ) → nat_eq c 46 ≡ p → led (cond p (Some Dot) None) cs ≡
+    ((p || has_dot cs) && parts is_empty is_number (at_split p c cs))
 first_zero_at true c cs p = behind_dot cs ∙ parts_all is_number 46 cs
-first_zero_at false c cs p = sym (ap (λ b. has_dot cs && b) (onto_never is_empty is_number c (λ x. refl) (split cs)) ∙ and_false (has_dot cs))
+first_zero_at false c cs p = sym (ap (λ b. has_dot cs && b) (onto_never is_empty is_number c (λ x. refl) (split cs))
+    ∙ and_false (has_dot cs))
 
 first_zero : (cs : List ℕ) → ends_well Zero cs ≡ (has_dot cs && parts is_empty is_number (split cs))
 first_zero [] = refl
 first_zero (c ∷ cs) = first_zero_at (nat_eq c 46) c cs refl
 
-first_number_at : (d p : Bool) (c : ℕ) (cs : List ℕ) → is_digit c ≡ d → nat_eq c 46 ≡ p → ends_well Number cs ≡ (has_dot cs && parts are_digits is_number (split cs))
-    → led (cond d (Some Number) (cond p (Some Dot) None)) cs ≡ ((p || has_dot cs) && parts are_digits is_number (at_split p c cs))
+first_number_at : (d p : Bool) (c : ℕ) (cs : List ℕ) → is_digit c ≡ d → nat_eq c 46 ≡ p → ends_well Number cs ≡
+    (has_dot cs && parts are_digits is_number (split cs))
+    → led (cond d (Some Number) (cond p (Some Dot) None)) cs ≡ ((p || has_dot cs) && parts are_digits is_number
+    (at_split p c cs))
 first_number_at true true c cs d p h = absurd (false_true (sym (no_digit c p) ∙ d))
-first_number_at true false c cs d p h = h ∙ sym (ap (λ b. has_dot cs && b) (onto are_digits are_digits is_number c (digits_more c d) (split cs)))
+first_number_at true false c cs d p h = h
+    ∙ sym (ap (λ b. has_dot cs && b) (onto are_digits are_digits is_number c (digits_more c d) (split cs)))
 first_number_at false true c cs d p h = behind_dot cs ∙ parts_all is_number 46 cs
-first_number_at false false c cs d p h = sym (ap (λ b. has_dot cs && b) (onto_never are_digits is_number c (no_digits c d) (split cs)) ∙ and_false (has_dot cs))
+first_number_at false false c cs d p h =
+    sym (ap (λ b. has_dot cs && b) (onto_never are_digits is_number c (no_digits c d) (split cs))
+    ∙ and_false (has_dot cs))
 
 first_number : (cs : List ℕ) → ends_well Number cs ≡ (has_dot cs && parts are_digits is_number (split cs))
 first_number [] = refl
@@ -138,7 +154,8 @@ first_number (c ∷ cs) = first_number_at (is_digit c) (nat_eq c 46) c cs refl r
 
 -- ---- oids
 
-letters_at : (b : Bool) (cs : List ℕ) → ends_well Letters cs ≡ list_all is_key_octet cs → led (cond b (Some Letters) None) cs ≡ (b && list_all is_key_octet cs)
+letters_at : (b : Bool) (cs : List ℕ) → ends_well Letters cs ≡ list_all is_key_octet cs →
+    led (cond b (Some Letters) None) cs ≡ (b && list_all is_key_octet cs)
 letters_at true cs h = h
 letters_at false cs h = refl
 
@@ -167,7 +184,8 @@ alpha_digit c d a =
 
 oid_at : (a z d p : Bool) (c : ℕ) (cs : List ℕ) → is_alpha c ≡ a → nat_eq c 48 ≡ z → is_digit c ≡ d → nat_eq c 46 ≡ p
     → led (cond a (Some Letters) (cond z (Some Zero) (cond d (Some Number) None))) cs
-    ≡ ((a && list_all is_key_octet cs) || ((p || has_dot cs) && led (cond z (Some DottedZero) (cond d (Some DottedNumber) None)) cs))
+    ≡ ((a && list_all is_key_octet cs) || ((p || has_dot cs)
+    && led (cond z (Some DottedZero) (cond d (Some DottedNumber) None)) cs))
 oid_at true true d p c cs e z f q = absurd (false_true (sym (alpha_zero c z) ∙ e))
 oid_at true false true p c cs e z f q = absurd (alpha_digit c f e)
 oid_at true false false p c cs e z f q = letters cs ∙ sym (or_false (list_all is_key_octet cs) (p || has_dot cs))
@@ -211,5 +229,6 @@ oid_run_of (c ∷ cs) h = oid_run_at (oid_first c) c cs refl h
 pub oid_run : (v : List ℕ) → is_oid v ≡ true → IsOidRun v
 oid_run v h = oid_run_of v (oid_same v ∙ h)
 
-pub is_oid_run : (c : ℕ) (cs : List ℕ) (o p : OidPlace) → oid_first c ≡ Some o → run oid_step o cs ≡ Some p → oid_ends p ≡ true → is_oid (c ∷ cs) ≡ true
+pub is_oid_run : (c : ℕ) (cs : List ℕ) (o p : OidPlace) → oid_first c ≡ Some o → run oid_step o cs ≡ Some p →
+    oid_ends p ≡ true → is_oid (c ∷ cs) ≡ true
 is_oid_run c cs o p e r d = sym (oid_same (c ∷ cs)) ∙ ap (λ x. led x cs) e ∙ ap (holds oid_ends) r ∙ d

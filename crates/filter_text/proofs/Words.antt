@@ -38,7 +38,8 @@ and_false : (b : Bool) → (b && false) ≡ false
 and_false true = refl
 and_false false = refl
 
-two_letters : (a b : Bool) (c d : ℕ) → nat_eq (to_ascii_lowercase d) 110 ≡ b → (a && (b && true)) ≡ is_dn_word (word_step (cond a OnlyD Other) d)
+two_letters : (a b : Bool) (c d : ℕ) → nat_eq (to_ascii_lowercase d) 110 ≡ b → (a && (b && true)) ≡
+    is_dn_word (word_step (cond a OnlyD Other) d)
 two_letters true true c d e = sym (ap (λ x. is_dn_word (cond x Dn Other)) e)
 two_letters true false c d e = sym (ap (λ x. is_dn_word (cond x Dn Other)) e)
 two_letters false b c d e = refl
@@ -69,7 +70,8 @@ is_dn_here Other e = absurd (false_true e)
 
 -- ---- `dn` is an oid
 
-lower_at : (a b : Bool) (c n : ℕ) → nat_lt c 65 ≡ a → nat_lt c 91 ≡ b → 96 < n → cond a c (cond b (c + 32) c) ≡ n → (c ≡ n) ⊎ (c + 32 ≡ n)
+lower_at : (a b : Bool) (c n : ℕ) → nat_lt c 65 ≡ a → nat_lt c 91 ≡ b → 96 < n → cond a c (cond b (c + 32) c) ≡ n →
+    (c ≡ n) ⊎ (c + 32 ≡ n)
 lower_at true b c n e f g h = inl h
 lower_at false true c n e f g h = inr h
 lower_at false false c n e f g h = inl h
@@ -87,9 +89,12 @@ pub dn_oid : (w : List ℕ) → is_dn w ≡ true → is_oid w ≡ true
 dn_oid [] h = absurd (false_true h)
 dn_oid (c ∷ []) h = absurd (false_true (sym (and_false (nat_eq (to_ascii_lowercase c) 100)) ∙ h))
 dn_oid (c ∷ d ∷ []) h =
-    oid_dn c d (lower c 100 (omega arith) (left (nat_eq (to_ascii_lowercase c) 100) (nat_eq (to_ascii_lowercase d) 110 && true) h))
-    (lower d 110 (omega arith) (left (nat_eq (to_ascii_lowercase d) 110) true (right (nat_eq (to_ascii_lowercase c) 100) (nat_eq (to_ascii_lowercase d) 110 && true) h)))
-dn_oid (c ∷ d ∷ e ∷ cs) h = absurd (false_true (sym (three_false (nat_eq (to_ascii_lowercase c) 100) (nat_eq (to_ascii_lowercase d) 110)) ∙ h))
+    oid_dn c d (lower c 100 (omega arith) (left (nat_eq (to_ascii_lowercase c) 100) (nat_eq (to_ascii_lowercase d) 110
+    && true) h))
+    (lower d 110 (omega arith) (left (nat_eq (to_ascii_lowercase d) 110) true
+    (right (nat_eq (to_ascii_lowercase c) 100) (nat_eq (to_ascii_lowercase d) 110 && true) h)))
+dn_oid (c ∷ d ∷ e ∷ cs) h =
+    absurd (false_true (sym (three_false (nat_eq (to_ascii_lowercase c) 100) (nat_eq (to_ascii_lowercase d) 110)) ∙ h))
 
 -- ---- a word and its oid, octet by octet
 
@@ -105,7 +110,8 @@ put_rule s = Rule s.0 s.1
 abbrev pub out_of_rule : Worded → ℕ → Option ItemPlace
 out_of_rule s c = rule_out s.0 s.1 c
 
-within_rule : (w : Word) (out : Option ItemPlace) (o : Option OidPlace) → within (Rule w) out o ≡ within put_rule out (option_map (λ p. (w, p)) o)
+within_rule : (w : Word) (out : Option ItemPlace) (o : Option OidPlace) → within (Rule w) out o ≡ within put_rule out
+    (option_map (λ p. (w, p)) o)
 within_rule w out None = refl
 within_rule w out (Some p) = refl
 
@@ -113,12 +119,15 @@ pub rule_inside : (s : Worded) (c : ℕ) → item_step (put_rule s) c ≡ within
 rule_inside s c = within_rule (word_step s.0 c) (rule_out s.0 s.1 c) (oid_step s.1 c)
 
 worded_at : (r : Option OidPlace) (w : Word) (o p : OidPlace) (c : ℕ) (cs : List ℕ)
-    → ((u : OidPlace) → run oid_step u cs ≡ Some p → run word_oid (word_step w c, u) cs ≡ Some (words (word_step w c) cs, p))
-    → option_and_then (λ u. run oid_step u cs) r ≡ Some p → option_and_then (λ t. run word_oid t cs) (option_map (λ p. (word_step w c, p)) r) ≡ Some (words (word_step w c) cs, p)
+    → ((u : OidPlace) → run oid_step u cs ≡ Some p → run word_oid (word_step w c, u) cs ≡
+    Some (words (word_step w c) cs, p))
+    → option_and_then (λ u. run oid_step u cs) r ≡ Some p → option_and_then (λ t. run word_oid t cs)
+    (option_map (λ p. (word_step w c, p)) r) ≡ Some (words (word_step w c) cs, p)
 worded_at None w o p c cs h e = absurd (none_some e)
 worded_at (Some u) w o p c cs h e = h u e
 
-pub worded : (w : Word) (o p : OidPlace) (cs : List ℕ) → run oid_step o cs ≡ Some p → run word_oid (w, o) cs ≡ Some (words w cs, p)
+pub worded : (w : Word) (o p : OidPlace) (cs : List ℕ) → run oid_step o cs ≡ Some p → run word_oid (w, o) cs ≡
+    Some (words w cs, p)
 worded w o p [] e = ap (λ u. Some (w, u)) (some_same e)
 worded w o p (c ∷ cs) e = worded_at (oid_step o c) w o p c cs (λ u f. worded (word_step w c) u p cs f) e
 
@@ -128,10 +137,12 @@ Unworded w o t cs = (run oid_step o cs ≡ Some t.1) × (t.0 ≡ words w cs)
 
 unworded_at : (r : Option OidPlace) (w : Word) (o : OidPlace) (t : Worded) (c : ℕ) (cs : List ℕ)
     → ((u : OidPlace) → run word_oid (word_step w c, u) cs ≡ Some t → Unworded (word_step w c) u t cs)
-    → option_and_then (λ s. run word_oid s cs) (option_map (λ p. (word_step w c, p)) r) ≡ Some t → (option_and_then (λ u. run oid_step u cs) r ≡ Some t.1) × (t.0 ≡ words (word_step w c) cs)
+    → option_and_then (λ s. run word_oid s cs) (option_map (λ p. (word_step w c, p)) r) ≡ Some t →
+    (option_and_then (λ u. run oid_step u cs) r ≡ Some t.1) × (t.0 ≡ words (word_step w c) cs)
 unworded_at None w o t c cs h e = absurd (none_some e)
 unworded_at (Some u) w o t c cs h e = h u e
 
-pub unworded : (w : Word) (o : OidPlace) (t : Worded) (cs : List ℕ) → run word_oid (w, o) cs ≡ Some t → Unworded w o t cs
+pub unworded : (w : Word) (o : OidPlace) (t : Worded) (cs : List ℕ) → run word_oid (w, o) cs ≡ Some t →
+    Unworded w o t cs
 unworded w o t [] e = (ap (λ (s : Worded). Some s.1) (some_same e), sym (ap (λ (s : Worded). s.0) (some_same e)))
 unworded w o t (c ∷ cs) e = unworded_at (oid_step o c) w o t c cs (λ u f. unworded (word_step w c) u t cs f) e

@@ -32,7 +32,8 @@ abbrev mutual
   -- filters' texts, one after the other, as many as there are (RFC 4515 3, filterlist; RFC 4526 2)
   pub HasFilters : Trees → List ℕ → List ℕ → Type 0
   HasFilters no_trees text rest = text ≡ rest
-  HasFilters (tree t ts) text rest = Joined (λ between. HasFilter t text between) (λ between. HasFilters ts between rest)
+  HasFilters (tree t ts) text rest = Joined (λ between. HasFilter t text between) (λ between. HasFilters ts between
+      rest)
 
 -- A text spells a filter.
 abbrev pub IsFilterText : Tree → List ℕ → Type 0

@@ -73,7 +73,8 @@ abbrev pub IsFlag : Bool → List ℕ → Type 0
 IsFlag true text = (w : List ℕ) × (text ≡ 58 ∷ w) × (is_dn w ≡ true)
 IsFlag false text = text ≡ []
 
--- which descriptions, flags and rules stand together: a description or a rule, each in its form, and no rule `dn` right behind a
+-- which descriptions, flags and rules stand together: a description or a rule, each in its form, and no rule `dn` right
+-- behind a
 -- description, where it reads as dnattrs
 abbrev pub is_applicable : Option (List ℕ) → Bool → Option (List ℕ) → Bool
 is_applicable None flag None = false
@@ -117,9 +118,11 @@ printed_flag false = []
 -- the text that is printed between an item's parentheses
 abbrev pub printed_item : Item → List ℕ
 printed_item (comparison k d a) = d ++ (operator k ++ printed_value a)
-printed_item (substrings s) = s.description ++ 61 ∷ (printed_part s.initial ++ 42 ∷ (printed_parts s.any ++ printed_part s.last))
+printed_item (substrings s) =
+    s.description ++ 61 ∷ (printed_part s.initial ++ 42 ∷ (printed_parts s.any ++ printed_part s.last))
 printed_item (presence d) = d ++ 61 ∷ 42 ∷ []
-printed_item (extensible e) = part_or_nothing e.description ++ (printed_flag e.dn_attributes ++ (rule_text e.matching_rule ++ 58 ∷ 61 ∷ printed_value e.match_value))
+printed_item (extensible e) = part_or_nothing e.description ++ (printed_flag
+    e.dn_attributes ++ (rule_text e.matching_rule ++ 58 ∷ 61 ∷ printed_value e.match_value))
 
 -- ---- which items have a text
 
@@ -136,6 +139,8 @@ is_part_or_none (Some v) = is_part v
 -- whether an item has a text
 abbrev pub has_item_text : Item → Bool
 has_item_text (comparison k d a) = is_description d && are_octets a
-has_item_text (substrings s) = is_description s.description && (is_part_or_none s.initial && (list_all is_part s.any && (is_part_or_none s.last && has_part s.initial s.any s.last)))
+has_item_text (substrings s) = is_description s.description
+    && (is_part_or_none s.initial
+    && (list_all is_part s.any && (is_part_or_none s.last && has_part s.initial s.any s.last)))
 has_item_text (presence d) = is_description d
 has_item_text (extensible e) = is_applicable e.description e.dn_attributes e.matching_rule && are_octets e.match_value

@@ -9,12 +9,14 @@ pub use Rattle.ldap_words.specs.Hexadecimal.{hex_digit, with_high, hex_octet}
 abbrev pub is_normal : ℕ → Bool
 is_normal c = (nat_le 1 c && nat_le c 39) || (nat_le 43 c && nat_le c 91) || (nat_le 93 c && nat_le c 255)
 
--- A text spells a value: a normal octet stands for itself, and a backslash and two hexadecimal digits for the octet of that number
+-- A text spells a value: a normal octet stands for itself, and a backslash and two hexadecimal digits for the octet of
+-- that number
 -- (RFC 4515 3, valueencoding).
 pub data IsValue : List ℕ → List ℕ → Type 0 where
   nothing : IsValue [] []
   normal : {v text : List ℕ} (c : ℕ) → is_normal c ≡ true → IsValue v text → IsValue (c ∷ v) (c ∷ text)
-  escaped : {v text : List ℕ} (h l c : ℕ) → hex_octet h l ≡ Some c → IsValue v text → IsValue (c ∷ v) (92 ∷ h ∷ l ∷ text)
+  escaped : {v text : List ℕ} (h l c : ℕ) → hex_octet h l ≡ Some c → IsValue v text →
+      IsValue (c ∷ v) (92 ∷ h ∷ l ∷ text)
 
 -- ---- what is printed
 
@@ -57,6 +59,7 @@ printed_from n [] = []
 printed_from (suc n) (c ∷ cs) = put_octet c ++ printed_from n cs
 printed_from zero (c ∷ cs) = put_first (character_len (c ∷ cs)) c ++ printed_from (character_len (c ∷ cs) - 1) cs
 
--- The printed form of a value: characters as they stand, and octets that may not stand, or are no character, behind a backslash.
+-- The printed form of a value: characters as they stand, and octets that may not stand, or are no character, behind a
+-- backslash.
 abbrev pub printed_value : List ℕ → List ℕ
 printed_value v = printed_from 0 v

@@ -12,9 +12,11 @@ abbrev pub is_named_by : SchemaModel → ℕ → Option ℕ → Bool
 is_named_by s t None = false
 is_named_by s t (Some u) = is_under s t u
 
--- `*` selects every user attribute; `1.1` selects none, whatever the schema has under that identifier (RFC 4511 4.5.1.8)
+-- `*` selects every user attribute; `1.1` selects none, whatever the schema has under that identifier (RFC 4511
+-- 4.5.1.8)
 abbrev pub is_selected_by : SchemaModel → ℕ → List ℕ → Bool
-is_selected_by s t selector = bytes_eq selector (codes "*") || (not (bytes_eq selector (codes "1.1")) && is_named_by s t (find s selector))
+is_selected_by s t selector = bytes_eq selector (codes "*") || (not (bytes_eq selector (codes "1.1"))
+    && is_named_by s t (find s selector))
 
 -- No selector at all selects every user attribute.
 abbrev pub is_selected : SchemaModel → List (List ℕ) → ℕ → Bool
@@ -31,7 +33,8 @@ shown s types_only a = record { description = first_name s a.kind; values = if t
 
 -- the selected attributes, in their order
 abbrev pub attributes_selected : SchemaModel → List (List ℕ) → Bool → List AttributeModel → List PartialAttributeValue
-attributes_selected s selectors types_only attributes = map (shown s types_only) (filter (λ a. is_selected s selectors a.kind) attributes)
+attributes_selected s selectors types_only attributes = map (shown s types_only)
+    (filter (λ a. is_selected s selectors a.kind) attributes)
 
 -- what a search shows of each entry: by a schema, the attributes that selectors select, or their types alone
 pub record ShowsModel : Type 0 where

@@ -27,9 +27,12 @@ IsNextLine xs (Some line) left = (is_empty xs ≡ false) × (line ≡ first_line
 abbrev pub IsNoHex : List ℕ → Type 0
 IsNoHex line = (octets : List ℕ) → decode_of line ≡ Ok octets → ⊥
 
--- The lines at the front spell these pieces of a stream, and this is left: each line that isn't empty is one piece in hex.
+-- The lines at the front spell these pieces of a stream, and this is left: each line that isn't empty is one piece in
+-- hex.
 pub data Spell : List ℕ → List (List ℕ) → List ℕ → Type 0 where
   stops : {xs : List ℕ} → Spell xs [] xs
-  skips : {xs rest : List ℕ} {ms : List (List ℕ)} → is_empty xs ≡ false → is_empty (first_line xs) ≡ true → Spell (after_line xs) ms rest → Spell xs ms rest
-  spells : {xs rest : List ℕ} {ms : List (List ℕ)} (m : List ℕ) → is_empty (first_line xs) ≡ false → decode_of (first_line xs) ≡ Ok m → Spell (after_line xs) ms rest →
+  skips : {xs rest : List ℕ} {ms : List (List ℕ)} → is_empty xs ≡ false → is_empty (first_line xs) ≡ true →
+      Spell (after_line xs) ms rest → Spell xs ms rest
+  spells : {xs rest : List ℕ} {ms : List (List ℕ)} (m : List ℕ) → is_empty (first_line xs) ≡ false →
+      decode_of (first_line xs) ≡ Ok m → Spell (after_line xs) ms rest →
       Spell xs (m ∷ ms) rest

@@ -26,11 +26,13 @@ get_here (x ∷ ks) (suc n) d l = get_here ks n d (omega arith)
 pub kinds_here : (ks : List Kinds) (n : ℕ) (k : Kinds) → n < length ks → k ≡ get_or ks n k → kinds_of ks n ≡ k
 kinds_here ks n k l e = ap kinds_or_none (get_here ks n k l) ∙ sym e
 
-pub kinds_set : (ks : List Kinds) (n t : ℕ) (k : Kinds) → n < length ks → kinds_of (slice_set ks n k) t ≡ cond (nat_eq n t) k (kinds_of ks t)
+pub kinds_set : (ks : List Kinds) (n t : ℕ) (k : Kinds) → n < length ks → kinds_of (slice_set ks n k) t ≡
+    cond (nat_eq n t) k (kinds_of ks t)
 kinds_set ks n t k l = pick (nat_eq n t) refl
   where
     pick : (b : Bool) → nat_eq n t ≡ b → kinds_of (slice_set ks n k) t ≡ cond b k (kinds_of ks t)
-    pick true e = subst (λ (u : ℕ). kinds_of (slice_set ks n k) u ≡ k) (eqb-true n t e) (ap kinds_or_none (set_here ks n k l))
+    pick true e = subst (λ (u : ℕ). kinds_of (slice_set ks n k) u ≡ k) (eqb-true n t e)
+        (ap kinds_or_none (set_here ks n k l))
     pick false e = ap kinds_or_none (set_else ks n t k (λ h. differ h))
       where
         differ : n ≡ t → ⊥

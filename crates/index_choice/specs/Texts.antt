@@ -19,7 +19,8 @@ use Rattle.index_choice.specs.Choice.{kinds_of}
 
 -- the words for the kinds of index
 abbrev pub is_kind : List ℕ → Bool
-is_kind w = bytes_eq w (codes "pres") || (bytes_eq w (codes "eq") || (bytes_eq w (codes "ord") || bytes_eq w (codes "sub")))
+is_kind w = bytes_eq w (codes "pres") || (bytes_eq w (codes "eq") || (bytes_eq w (codes "ord") || bytes_eq w
+    (codes "sub")))
 
 -- whether a word is one of these, octet for octet
 abbrev pub has_word : List ℕ → List (List ℕ) → Bool
@@ -54,7 +55,8 @@ named_by (Some t) = Known t
 -- what the words of a line say: a name with a colon, then kinds; none, where they are no such line
 abbrev pub line_of_words : SchemaModel → ℕ → List (List ℕ) → Option IndexLine
 line_of_words s n [] = None
-line_of_words s n (head ∷ words) = cond (is_head head && are_kinds words) (Some (record { number = n; named = named_by (find s (without_colon head)); kinds = kinds_named words })) None
+line_of_words s n (head ∷ words) = cond (is_head head && are_kinds words)
+    (Some (record { number = n; named = named_by (find s (without_colon head)); kinds = kinds_named words })) None
 
 -- what the line of a number says: its words have one space between them
 abbrev pub index_line : SchemaModel → ℕ → List ℕ → Option IndexLine
@@ -102,7 +104,8 @@ implies a b = not a || b
 
 -- whether a type has the rules that kinds of index need; presence needs none
 abbrev pub has_rules : SchemaModel → Kinds → ℕ → Bool
-has_rules s k t = implies k.equality (is_some (equality_of s t)) && (implies k.ordering (is_some (ordering_of s t)) && implies k.substrings (is_some (substrings_of s t)))
+has_rules s k t = implies k.equality (is_some (equality_of s t)) && (implies k.ordering (is_some (ordering_of s t))
+    && implies k.substrings (is_some (substrings_of s t)))
 
 -- whether a known type lacks a rule that kinds of index need
 abbrev pub lacks_rules_at : SchemaModel → Kinds → Named → Bool
@@ -121,9 +124,11 @@ refused_at (Some line) fault rest = Some (fault line)
 -- the first thing that is wrong with lines, or with what they ask for
 abbrev pub fault_in : SchemaModel → Result (List IndexLine) ℕ → Option IndexError
 fault_in s (Err line) = Some (BadDescription line)
-fault_in s (Ok ls) = refused_at (first_line is_unknown ls) UnknownName (refused_at (first_line (lacks_rules s) ls) IndexWithoutRule None)
+fault_in s (Ok ls) = refused_at (first_line is_unknown ls) UnknownName (refused_at (first_line (lacks_rules s) ls)
+    IndexWithoutRule None)
 
--- The first thing that is wrong: a line that says nothing, else one that names a type that is not there, else one that asks for an
+-- The first thing that is wrong: a line that says nothing, else one that names a type that is not there, else one that
+-- asks for an
 -- index by a rule that its type lacks.
 abbrev pub fault_of : SchemaModel → List ℕ → Option IndexError
 fault_of s text = fault_in s (index_lines s text)

@@ -13,21 +13,25 @@ use Rattle.directory_api.specs.dir_tree.Directory.{NameKey, Entered, name_eq, be
 use Rattle.indexed_tree.specs.Stored.{AreKeyedBy}
 
 -- its number is above any that is below all
-pub found_above : (n : ℕ) (q : NameKey) (d : List Entered) (k : ℕ) → AllAbove n d → option_map (λ (e : Entered). e.number) (find q d) ≡ Some k → n < k
+pub found_above : (n : ℕ) (q : NameKey) (d : List Entered) (k : ℕ) → AllAbove n d →
+    option_map (λ (e : Entered). e.number) (find q d) ≡ Some k → n < k
 found_above n q [] k a h = absurd (cc h)
 found_above n q (e ∷ es) k a h = by (name_eq q (rdns e.name)) (found_above n q es k a.1) h
   where
-    by : (b : Bool) → (option_map (λ (x : Entered). x.number) (find q es) ≡ Some k → n < k) → option_map (λ (x : Entered). x.number) (cond b (Some e) (find q es)) ≡ Some k → n < k
+    by : (b : Bool) → (option_map (λ (x : Entered). x.number) (find q es) ≡ Some k → n < k) →
+        option_map (λ (x : Entered). x.number) (cond b (Some e) (find q es)) ≡ Some k → n < k
     by true ih h = let same : e.number ≡ k = cc h in subst (λ (m : ℕ). n < m) same a.0
     by false ih h = ih h
 
 -- it is the entry of its number
-pub found_at : (q : NameKey) (d : List Entered) (k : ℕ) → NumbersRise d → option_map (λ (e : Entered). e.number) (find q d) ≡ Some k → entry_at k d ≡ find q d
+pub found_at : (q : NameKey) (d : List Entered) (k : ℕ) → NumbersRise d → option_map (λ (e : Entered). e.number)
+    (find q d) ≡ Some k → entry_at k d ≡ find q d
 found_at q [] k r h = absurd (cc h)
 found_at q (e ∷ es) k r h = by (name_eq q (rdns e.name)) (found_at q es k r.1) h
   where
     by : (b : Bool) → (option_map (λ (x : Entered). x.number) (find q es) ≡ Some k → entry_at k es ≡ find q es)
-        → option_map (λ (x : Entered). x.number) (cond b (Some e) (find q es)) ≡ Some k → cond (nat_eq k e.number) (Some e) (entry_at k es) ≡ cond b (Some e) (find q es)
+        → option_map (λ (x : Entered). x.number) (cond b (Some e) (find q es)) ≡ Some k →
+        cond (nat_eq k e.number) (Some e) (entry_at k es) ≡ cond b (Some e) (find q es)
     by true ih h =
         let same : e.number ≡ k = cc h in
         let own : nat_eq k e.number ≡ true = grind (arith, same) in
@@ -38,14 +42,19 @@ found_at q (e ∷ es) k r h = by (name_eq q (rdns e.name)) (found_at q es k r.1)
         ap (λ (c : Bool). cond c (Some e) (entry_at k es)) apart ∙ ih h
 
 -- its attributes
-pub found_entry : {A : Type 0} (f : Entered → A) (q : NameKey) (d : List Entered) (k : ℕ) (a : A) → NumbersRise d → option_map (λ (e : Entered). e.number) (find q d) ≡ Some k → Some a ≡ option_map f (entry_at k d) → Some a ≡ option_map f (find q d)
+pub found_entry : {A : Type 0} (f : Entered → A) (q : NameKey) (d : List Entered) (k : ℕ) (a : A) → NumbersRise d →
+    option_map (λ (e : Entered). e.number) (find q d) ≡ Some k → Some a ≡ option_map f (entry_at k d) →
+    Some a ≡ option_map f (find q d)
 found_entry f q d k a r h g = g ∙ ap (λ (o : Option Entered). option_map f o) (found_at q d k r h)
 
 -- an entry that was found is the entry of its number
-pub found_somewhere : {A : Type 0} (f : Entered → A) (q : NameKey) (d : List Entered) (k : ℕ) → NumbersRise d → option_map (λ (e : Entered). e.number) (find q d) ≡ Some k → None ≡ option_map f (entry_at k d) → ⊥
-found_somewhere {A} f q d k r h g = by (find q d) h (g ∙ ap (λ (o : Option Entered). option_map f o) (found_at q d k r h))
+pub found_somewhere : {A : Type 0} (f : Entered → A) (q : NameKey) (d : List Entered) (k : ℕ) → NumbersRise d →
+    option_map (λ (e : Entered). e.number) (find q d) ≡ Some k → None ≡ option_map f (entry_at k d) → ⊥
+found_somewhere {A} f q d k r h g = by (find q d) h (g ∙ ap (λ (o : Option Entered). option_map f o)
+    (found_at q d k r h))
   where
-    by : (o : Option Entered) → option_map (λ (e : Entered). e.number) o ≡ Some k → ◌≡◌ {A = Option A} None (option_map f o) → ⊥
+    by : (o : Option Entered) → option_map (λ (e : Entered). e.number) o ≡ Some k →
+        ◌≡◌ {A = Option A} None (option_map f o) → ⊥
     by None h g = cc h
     by (Some e) h g = cc g
 
@@ -53,43 +62,55 @@ abbrev made : ℕ → List RdnModel → List KeyedAttribute → Entered
 made k n a = record { number = k; name = n; entry = a }
 
 -- it stands where its name is
-pub found_standing : (q : NameKey) (d : List Entered) (k : ℕ) (a : List KeyedAttribute) (n : List RdnModel) → NumbersRise d → Some k ≡ option_map (λ (e : Entered). e.number) (find q d) → Some a ≡ option_map (λ (e : Entered). e.entry) (find q d)
-    → Some n ≡ option_map (λ (e : Entered). e.name) (entry_at k d) → Some (record { number = k; name = n; entry = a }) ≡ find q d
-found_standing q d k a n r h g m = by (find q d) h g (m ∙ ap (λ (o : Option Entered). option_map (λ (e : Entered). e.name) o) (found_at q d k r (sym h)))
+pub found_standing : (q : NameKey) (d : List Entered) (k : ℕ) (a : List KeyedAttribute) (n : List RdnModel) →
+    NumbersRise d → Some k ≡ option_map (λ (e : Entered). e.number) (find q d) →
+    Some a ≡ option_map (λ (e : Entered). e.entry) (find q d)
+    → Some n ≡ option_map (λ (e : Entered). e.name) (entry_at k d) →
+    Some (record { number = k; name = n; entry = a }) ≡ find q d
+found_standing q d k a n r h g m = by (find q d) h g
+    (m ∙ ap (λ (o : Option Entered). option_map (λ (e : Entered). e.name) o) (found_at q d k r (sym h)))
   where
-    by : (o : Option Entered) → Some k ≡ option_map (λ (e : Entered). e.number) o → Some a ≡ option_map (λ (e : Entered). e.entry) o → Some n ≡ option_map (λ (e : Entered). e.name) o → Some (record { number = k; name = n; entry = a }) ≡ o
+    by : (o : Option Entered) → Some k ≡ option_map (λ (e : Entered). e.number) o →
+        Some a ≡ option_map (λ (e : Entered). e.entry) o → Some n ≡ option_map (λ (e : Entered). e.name) o →
+        Some (record { number = k; name = n; entry = a }) ≡ o
     by None f g m = absurd (cc f)
     by (Some e) f g m =
         let number : k ≡ e.number = cc f in
         let entry : a ≡ e.entry = cc g in
         let name : n ≡ e.name = cc m in
-        ap (λ (x : ℕ). Some (made x n a)) number ∙ ap₂ (λ (x : List RdnModel) (y : List KeyedAttribute). Some (made e.number x y)) name entry
+        ap (λ (x : ℕ). Some (made x n a)) number ∙ ap₂ (λ (x : List RdnModel) (y : List KeyedAttribute).
+        Some (made e.number x y)) name entry
 
 -- its name is the one that was looked for
 pub found_name : (q : NameKey) (d : List Entered) (x : Entered) → find q d ≡ Some x → name_eq q (rdns x.name) ≡ true
 found_name q [] x h = absurd (cc h)
 found_name q (e ∷ es) x h = by (name_eq q (rdns e.name)) refl (found_name q es x) h
   where
-    by : (b : Bool) → name_eq q (rdns e.name) ≡ b → (find q es ≡ Some x → name_eq q (rdns x.name) ≡ true) → cond b (Some e) (find q es) ≡ Some x → name_eq q (rdns x.name) ≡ true
+    by : (b : Bool) → name_eq q (rdns e.name) ≡ b → (find q es ≡ Some x → name_eq q (rdns x.name) ≡ true) →
+        cond b (Some e) (find q es) ≡ Some x → name_eq q (rdns x.name) ≡ true
     by true t ih h = let same : e ≡ x = cc h in subst (λ (y : Entered). name_eq q (rdns y.name) ≡ true) same t
     by false t ih h = ih h
 
 -- its keys are those of its values
-pub found_keyed : (s : SchemaModel) (q : NameKey) (d : List Entered) (x : Entered) → AreKeyedBy s d → find q d ≡ Some x → IsKeyedBy s x.entry
+pub found_keyed : (s : SchemaModel) (q : NameKey) (d : List Entered) (x : Entered) → AreKeyedBy s d →
+    find q d ≡ Some x → IsKeyedBy s x.entry
 found_keyed s q [] x k h = absurd (cc h)
 found_keyed s q (e ∷ es) x k h = by (name_eq q (rdns e.name)) (found_keyed s q es x k.1) h
   where
-    by : (b : Bool) → (find q es ≡ Some x → IsKeyedBy s x.entry) → cond b (Some e) (find q es) ≡ Some x → IsKeyedBy s x.entry
+    by : (b : Bool) → (find q es ≡ Some x → IsKeyedBy s x.entry) → cond b (Some e) (find q es) ≡ Some x →
+        IsKeyedBy s x.entry
     by true ih h = let same : e ≡ x = cc h in subst (λ (y : Entered). IsKeyedBy s y.entry) same k.0
     by false ih h = ih h
 
 -- its keys, where its attributes are known alone
-pub found_keys : (s : SchemaModel) (q : NameKey) (d : List Entered) (a : List KeyedAttribute) → AreKeyedBy s d → Some a ≡ option_map (λ (e : Entered). e.entry) (find q d) → IsKeyedBy s a
+pub found_keys : (s : SchemaModel) (q : NameKey) (d : List Entered) (a : List KeyedAttribute) → AreKeyedBy s d →
+    Some a ≡ option_map (λ (e : Entered). e.entry) (find q d) → IsKeyedBy s a
 found_keys s q d a keyed h = by (find q d) refl h
   where
     by : (o : Option Entered) → find q d ≡ o → Some a ≡ option_map (λ (e : Entered). e.entry) o → IsKeyedBy s a
     by None f g = absurd (cc g)
-    by (Some e) f g = let same : e.entry ≡ a = cc g in subst (λ (x : List KeyedAttribute). IsKeyedBy s x) same (found_keyed s q d e keyed f)
+    by (Some e) f g = let same : e.entry ≡ a = cc g in subst (λ (x : List KeyedAttribute). IsKeyedBy s x) same
+        (found_keyed s q d e keyed f)
 
 both : (a b : Bool) → (a && b) ≡ true → (a ≡ true) × (b ≡ true)
 both true b e = (refl, e)
@@ -109,7 +130,8 @@ keys_same (x ∷ xs) [] e = absurd (cc e)
 keys_same (x ∷ xs) (y ∷ ys) e =
     let p = both (nat_eq x.kind y.kind && bytes_eq x.key y.key) (are_same_keys xs ys) e in
     let q = both (nat_eq x.kind y.kind) (bytes_eq x.key y.key) p.0 in
-    ap₂ (λ (z : TypeAndKey) (zs : List TypeAndKey). z ∷ zs) (same_fields x y (eqb-true x.kind y.kind q.0) ((bytes_eq-Decides x.key y.key).0 q.1)) (keys_same xs ys p.1)
+    ap₂ (λ (z : TypeAndKey) (zs : List TypeAndKey). z ∷ zs) (same_fields x y (eqb-true x.kind y.kind q.0)
+    ((bytes_eq-Decides x.key y.key).0 q.1)) (keys_same xs ys p.1)
 
 -- names that are one by the test are one
 pub names_same : (a b : NameKey) → name_eq a b ≡ true → a ≡ b
@@ -117,7 +139,8 @@ names_same [] [] e = refl
 names_same [] (y ∷ ys) e = absurd (cc e)
 names_same (x ∷ xs) [] e = absurd (cc e)
 names_same (x ∷ xs) (y ∷ ys) e =
-    let p = both (are_same_keys x y) (name_eq xs ys) e in ap₂ (λ (z : List TypeAndKey) (zs : NameKey). z ∷ zs) (keys_same x y p.0) (names_same xs ys p.1)
+    let p = both (are_same_keys x y) (name_eq xs ys) e in ap₂ (λ (z : List TypeAndKey) (zs : NameKey). z ∷ zs)
+    (keys_same x y p.0) (names_same xs ys p.1)
 
 pub rdns_join : (a b : List RdnModel) → rdns (a ++ b) ≡ rdns a ++ rdns b
 rdns_join [] b = refl
@@ -134,7 +157,8 @@ cut (suc i) [] = refl
 cut (suc i) (x ∷ a) = ap (λ (l : List RdnModel). x ∷ l) (cut i a)
 
 -- a name whose own relative name stands behind another spelling of what is above it
-pub placed_same : (i : ℕ) (name above : List RdnModel) → rdns above ≡ rdns (take i name) → rdns (above ++ drop i name) ≡ rdns name
+pub placed_same : (i : ℕ) (name above : List RdnModel) → rdns above ≡ rdns (take i name) →
+    rdns (above ++ drop i name) ≡ rdns name
 placed_same i name above h =
     rdns_join above (drop i name)
     ∙ ap (λ (q : NameKey). q ++ rdns (drop i name)) h
@@ -142,12 +166,14 @@ placed_same i name above h =
     ∙ ap rdns (cut i name)
 
 -- names are told apart by their relative names in turn
-pub names_equal : (a b : List RdnModel) → pointwise (λ (x y : RdnModel). are_same_keys x.keys y.keys) a b ≡ name_eq (rdns a) (rdns b)
+pub names_equal : (a b : List RdnModel) → pointwise (λ (x y : RdnModel). are_same_keys x.keys y.keys) a b ≡
+    name_eq (rdns a) (rdns b)
 names_equal a b = sym (pointwise-map (λ (r : RdnModel). r.keys) are_same_keys a b)
 
 keys_own : (a : List TypeAndKey) → are_same_keys a a ≡ true
 keys_own [] = refl
-keys_own (x ∷ a) = whole (nat_eq x.kind x.kind) (bytes_eq x.key x.key) (are_same_keys a a) (eq-eqb x.kind x.kind refl) ((bytes_eq-Decides x.key x.key).1 refl) (keys_own a)
+keys_own (x ∷ a) = whole (nat_eq x.kind x.kind) (bytes_eq x.key x.key) (are_same_keys a a) (eq-eqb x.kind x.kind refl)
+    ((bytes_eq-Decides x.key x.key).1 refl) (keys_own a)
   where
     whole : (b c e : Bool) → b ≡ true → c ≡ true → e ≡ true → (b && c && e) ≡ true
     whole true true true f g h = refl
@@ -161,14 +187,18 @@ turned a b = by (are_same_keys a b) (are_same_keys b a) refl refl
     by : (c e : Bool) → are_same_keys a b ≡ c → are_same_keys b a ≡ e → c ≡ e
     by true true f g = refl
     by false false f g = refl
-    by true false f g = absurd (cc (sym g ∙ subst (λ (z : List TypeAndKey). are_same_keys b z ≡ true) (sym (keys_same a b f)) (keys_own b)))
-    by false true f g = absurd (cc (sym f ∙ subst (λ (z : List TypeAndKey). are_same_keys a z ≡ true) (sym (keys_same b a g)) (keys_own a)))
+    by true false f g = absurd (cc (sym g ∙ subst (λ (z : List TypeAndKey). are_same_keys b z ≡ true)
+        (sym (keys_same a b f)) (keys_own b)))
+    by false true f g = absurd (cc (sym f ∙ subst (λ (z : List TypeAndKey). are_same_keys a z ≡ true)
+        (sym (keys_same b a g)) (keys_own a)))
 
 -- a front is told by its own length
-pub front_is : (f w : List RdnModel) → length f ≤ length w → name_eq (rdns (take (length f) w)) (rdns f) ≡ begins (rdns f) (rdns w)
+pub front_is : (f w : List RdnModel) → length f ≤ length w → name_eq (rdns (take (length f) w)) (rdns f) ≡
+    begins (rdns f) (rdns w)
 front_is [] w l = refl
 front_is (x ∷ f) [] l = absurd (omega arith)
-front_is (x ∷ f) (y ∷ w) l = ap₂ (λ (a b : Bool). a && b) (turned y.keys x.keys) (front_is f w (lower (length f) (length w) l))
+front_is (x ∷ f) (y ∷ w) l = ap₂ (λ (a b : Bool). a && b) (turned y.keys x.keys)
+    (front_is f w (lower (length f) (length w) l))
   where
     lower : (m n : ℕ) → suc m ≤ suc n → m ≤ n
     lower m n l = omega arith

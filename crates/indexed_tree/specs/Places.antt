@@ -51,10 +51,17 @@ without_entry k (e ∷ es) = cond (nat_eq k e.number) es (e ∷ without_entry k 
 abbrev pub with_attributes : ℕ → List AttributeModel → List NamedEntry → List NamedEntry
 with_attributes k attributes [] = []
 with_attributes k attributes (e ∷ es) =
-    cond (nat_eq k e.number) (record { number = e.number; name = e.name; attributes = attributes } ∷ es) (e ∷ with_attributes k attributes es)
+    cond (nat_eq k e.number) (record { number = e.number; name = e.name; attributes = attributes } ∷ es)
+    (e ∷ with_attributes k attributes es)
 
--- The entries once one has another name and other attributes: each name that begins with the old one begins with the new one in its place,
+-- The entries once one has another name and other attributes: each name that begins with the old one begins with the
+-- new one in its place,
 -- and all else stays (RFC 4511 4.9).
 abbrev pub moved : NameKey → List RdnModel → List AttributeModel → List NamedEntry → List NamedEntry
 moved old new attributes es =
-    map (λ e. record { number = e.number; name = name_after old new e.name; attributes = cond (name_eq old (rdns e.name)) attributes e.attributes }) es
+    map (λ e. record {
+      number = e.number;
+      name = name_after old new e.name;
+      attributes =
+          cond (name_eq old (rdns e.name)) attributes e.attributes;
+    }) es

@@ -9,9 +9,14 @@ use Rattle.directory_api.specs.Answers.{ReplyModel, only}
 use Rattle.indexed_tree.specs.Directory.{Directory, NamedEntry}
 use Rattle.indexed_tree.specs.Places.{entry_named, nearest}
 
--- noSuchObject (32), with the printed name of the entry at the longest front of the name that has one, if any (RFC 4511 4.1.9)
+-- noSuchObject (32), with the printed name of the entry at the longest front of the name that has one, if any (RFC 4511
+-- 4.1.9)
 abbrev pub not_found : Directory → List RdnModel → ReplyModel
-not_found d name = record { code = 32; matched = option_map_or (λ e. printed_name d.schema e.name) (nearest (rdns name) d.entries) [] }
+not_found d name = record {
+  code = 32;
+  matched = option_map_or (λ e. printed_name d.schema e.name)
+      (nearest (rdns name) d.entries) [];
+}
 
 -- what comes after a step that may refuse
 abbrev pub then : {A B : Type 0} → Result A ReplyModel → (A → Result B ReplyModel) → Result B ReplyModel

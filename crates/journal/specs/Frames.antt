@@ -1,5 +1,7 @@
--- Frames: a string of octets with its length and the number of its octets that aren't zero. A journal stands for the strings of its whole frames, up
--- to the first that isn't whole. Where nothing was written yet there are zeros, so a torn write can only lose octets, and the count tells.
+-- Frames: a string of octets with its length and the number of its octets that aren't zero. A journal stands for the
+-- strings of its whole frames, up
+-- to the first that isn't whole. Where nothing was written yet there are zeros, so a torn write can only lose octets,
+-- and the count tells.
 use Rattle.std.specs.Prelude.{◌≡◌, ◌<◌, ◌^◌, ℕ, zero, suc, ◌+◌, ◌-◌, ◌*◌, ◌/◌, ◌%◌, Bool, true, false, cond, ◌&&◌, ◌==◌, nat_le, List, [], ◌∷◌, ◌++◌, length, take, drop, replicate}
 
 -- a number in so many octets, none of which is zero: seven bits each, the least first, and the top bit set
@@ -55,7 +57,8 @@ after octets = drop (head_length octets) (drop 10 octets)
 -- A frame is whole where its header is, it is there in full, and as many of its octets aren't zero as the header names.
 abbrev pub is_whole : List ℕ → Bool
 is_whole octets =
-    are_digits 10 octets && (nat_le (head_length octets) (length (drop 10 octets)) && nonzeros (body_at octets) == head_count octets)
+    are_digits 10 octets && (nat_le (head_length octets) (length (drop 10 octets)) && nonzeros (body_at octets) ==
+    head_count octets)
 
 -- the strings of the whole frames, up to the first that isn't; as many as the first number at most
 abbrev pub bodies : ℕ → List ℕ → List (List ℕ)
@@ -68,4 +71,5 @@ recorded octets = bodies (length octets) octets
 
 -- The frames of strings, below 2 ^ 35 octets in all, are read as these strings, with any number of zeros behind them.
 abbrev pub FramesAreRead : Type 0
-FramesAreRead = (bs : List (List ℕ)) (room : ℕ) → length (frames bs) < 2 ^ 35 → recorded (frames bs ++ replicate room 0) ≡ bs
+FramesAreRead = (bs : List (List ℕ)) (room : ℕ) → length (frames bs) < 2 ^ 35 →
+    recorded (frames bs ++ replicate room 0) ≡ bs

@@ -6,17 +6,20 @@ use Rattle.lab_script.specs.Events.{EventValue}
 use Rattle.lab_script.specs.Lines.{RequestParts, request_parts, IsRequestOf, IsRequest, SearchParts, search_parts, IsSearchOf, IsSearch, IsOne}
 
 -- Parts whose text writes no search.
-pub no_text : (p : SearchParts) (e : EventValue) → ((q : SearchRequestValue) → IsSearchText p.text q → ⊥) → IsSearchOf p e → ⊥
+pub no_text : (p : SearchParts) (e : EventValue) → ((q : SearchRequestValue) → IsSearchText p.text q → ⊥) →
+    IsSearchOf p e → ⊥
 no_text p e none h = none h.request h.writes
 
 -- A line has one list of parts.
-pub no_search : (rest : List ℕ) (p : SearchParts) (e : EventValue) → search_parts rest ≡ Some p → (IsSearchOf p e → ⊥) → IsSearch rest e → ⊥
+pub no_search : (rest : List ℕ) (p : SearchParts) (e : EventValue) → search_parts rest ≡ Some p →
+    (IsSearchOf p e → ⊥) → IsSearch rest e → ⊥
 no_search rest p e is none h =
     let other : search_parts rest ≡ Some h.parts = h.is_cut in
     let same : h.parts ≡ p = cc in
     none (subst (λ (o : SearchParts). IsSearchOf o e) same h.is_search)
 
-pub no_request : (rest : List ℕ) (p : RequestParts) (e : EventValue) → request_parts rest ≡ Some p → (IsRequestOf p e → ⊥) → IsRequest rest e → ⊥
+pub no_request : (rest : List ℕ) (p : RequestParts) (e : EventValue) → request_parts rest ≡ Some p →
+    (IsRequestOf p e → ⊥) → IsRequest rest e → ⊥
 no_request rest p e is none h =
     let other : request_parts rest ≡ Some h.parts = h.is_cut in
     let same : h.parts ≡ p = cc in

@@ -9,7 +9,12 @@ no_line : line_in (codes "sn:x") ≡ None
 no_line = refl
 
 -- The filter is all behind the second bar.
-bars : parts_of (codes "dc=x|one|(|(cn=a))") ≡ Some (record { base = codes "dc=x"; scope = SingleLevel; filter = codes "(|(cn=a))" })
+bars : parts_of (codes "dc=x|one|(|(cn=a))") ≡ Some (record {
+  base = codes "dc=x";
+  scope = SingleLevel;
+  filter =
+      codes "(|(cn=a))";
+})
 bars = refl
 
 -- A text is cut at its first space alone.

@@ -26,7 +26,8 @@ seven = record { odd = refl; three = omega arith }
 of_three : (n : ℕ) → (n == 3 || n == 5 || n == 7) ≡ true → IsSize n
 of_three n h =
     either (n == 3 || n == 5) (n == 7) h
-    (λ k. either (n == 3) (n == 5) k (λ e. subst IsSize (sym (eqb-true n 3 e)) three) (λ e. subst IsSize (sym (eqb-true n 5 e)) five))
+    (λ k. either (n == 3) (n == 5) k (λ e. subst IsSize (sym (eqb-true n 3 e)) three)
+    (λ e. subst IsSize (sym (eqb-true n 5 e)) five))
     (λ e. subst IsSize (sym (eqb-true n 7 e)) seven)
 
 by_test : (b : Bool) (m n : ℕ) → (m == 3 || m == 5 || m == 7) ≡ b → cond b (Some m) None ≡ Some n → IsSize n

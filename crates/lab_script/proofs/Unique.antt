@@ -11,18 +11,22 @@ use Rattle.lab_script.specs.Searches.{Parts, parts_of, search_of, IsSearchOf, Is
 
 -- octets are one message at most
 abbrev pub OneMessage : Type 0
-OneMessage = (m n : MessageValue) (a b x y : List ℕ) → IsMessage a m → IsMessage b n → a ++ x ≡ b ++ y → (a ≡ b) × (m ≡ n)
+OneMessage = (m n : MessageValue) (a b x y : List ℕ) → IsMessage a m → IsMessage b n → a ++ x ≡ b ++ y → (a ≡ b)
+    × (m ≡ n)
 
 -- octets ask for one update at most
-one_in : OneMessage → (octets : List ℕ) (op other : OpValue) → IsUpdateIn octets op → IsUpdateIn octets other → op ≡ other
+one_in : OneMessage → (octets : List ℕ) (op other : OpValue) → IsUpdateIn octets op → IsUpdateIn octets other →
+    op ≡ other
 one_in one octets op other h k =
-    let same : h.message ≡ k.message = (one h.message k.message octets octets [] [] h.whole.is_message k.whole.is_message refl).1 in
+    let same : h.message ≡ k.message = (one h.message k.message octets octets [] [] h.whole.is_message
+    k.whole.is_message refl).1 in
     let asks : update_by k.message.op ≡ Some op = sym (ap (λ (m : MessageValue). update_by m.op) same) ∙ h.asks in
     let asked : update_by k.message.op ≡ Some other = k.asks in
     cc
 
 -- so do digits
-one_hex : OneMessage → (digits : List ℕ) (op other : OpValue) → IsHexText digits op → IsHexText digits other → op ≡ other
+one_hex : OneMessage → (digits : List ℕ) (op other : OpValue) → IsHexText digits op → IsHexText digits other →
+    op ≡ other
 one_hex one digits op other h k =
     let first : decode_of digits ≡ Ok h.octets = h.spelled in
     let second : decode_of digits ≡ Ok k.octets = k.spelled in
@@ -47,7 +51,8 @@ one_asked one p q other h k =
     h.asks ∙ ap (search_of p) (one h.tree k.tree p.filter h.filter.filter.spelled k.filter.filter.spelled) ∙ sym k.asks
 
 -- So does a text.
-pub one_text : OneFilter → (text : List ℕ) (q other : SearchRequestValue) → IsSearchText text q → IsSearchText text other → q ≡ other
+pub one_text : OneFilter → (text : List ℕ) (q other : SearchRequestValue) → IsSearchText text q →
+    IsSearchText text other → q ≡ other
 one_text one text q other h k =
     let first : parts_of text ≡ Some h.parts = h.is_cut in
     let second : parts_of text ≡ Some k.parts = k.is_cut in

@@ -27,7 +27,8 @@ onto more k = record { front = more ++ k.front; behind = k.behind }
 -- A text cut at its first colon with a space behind it; none, where it has none.
 abbrev pub cut_pair : List ℕ → Option Cut
 cut_pair [] = None
-cut_pair (c ∷ cs) = cond (begins_value (c ∷ cs)) (Some (record { front = []; behind = drop 1 cs })) (option_map (onto (c ∷ [])) (cut_pair cs))
+cut_pair (c ∷ cs) = cond (begins_value (c ∷ cs)) (Some (record { front = []; behind = drop 1 cs }))
+    (option_map (onto (c ∷ [])) (cut_pair cs))
 
 -- what stands behind the spaces at the front
 abbrev pub behind_spaces : List ℕ → List ℕ

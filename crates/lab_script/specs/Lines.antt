@@ -37,7 +37,8 @@ deliveries_of (t ∷ ts) = all_of delivery_of (t ∷ ts)
 abbrev pub resumes : ℕ → ℕ → EventValue
 resumes r k = happens (world.Resume r k)
 
--- `deliver K ..`, `suspect R`, `beat R`, `crash R`, `recover R X`, `resume R`, `resume R K` and `state R`, and no other line of these.
+-- `deliver K ..`, `suspect R`, `beat R`, `crash R`, `recover R X`, `resume R`, `resume R K` and `state R`, and no other
+-- line of these.
 abbrev pub events_of : List Token → Option (List EventValue)
 events_of (Deliver ∷ ts) = deliveries_of ts
 events_of (Suspect ∷ Number r ∷ []) = Some (happens (world.Suspect r) ∷ [])
@@ -65,13 +66,19 @@ pub record RequestParts : Type 0 where
 -- the parts of a request, behind its word
 abbrev pub request_parts : List ℕ → Option RequestParts
 request_parts rest =
-    option_and_then (λ r. option_and_then (λ k. option_map (λ n. record { replica = r.number; client = k.number; number = n.number; text = n.rest })
+    option_and_then (λ r. option_and_then
+    (λ k. option_map (λ n. record { replica = r.number; client = k.number; number = n.number; text = n.rest })
     (number_then k.rest)) (number_then r.rest)) (number_then rest)
 
 -- A client, which names itself, asks a replica for an update as its request of this number.
 abbrev pub requested : ℕ → ℕ → ℕ → OpValue → EventValue
 requested r k n op =
-    happens (world.Request r (record { client = record { home = 0; life = 0; number = k }; request_number = n; payload = op }))
+    happens (world.Request r (record {
+      client = record { home = 0; life = 0; number = k };
+      request_number =
+          n;
+      payload = op;
+    }))
 
 -- the request of these parts: the update is the one that their text writes
 pub record IsRequestOf (parts : RequestParts) (e : EventValue) : Type 0 where
@@ -96,7 +103,8 @@ pub record SearchParts : Type 0 where
 -- the parts of a search, behind its word
 abbrev pub search_parts : List ℕ → Option SearchParts
 search_parts rest =
-    option_and_then (λ r. option_map (λ n. record { replica = r.number; named = n.number; text = n.rest }) (number_then r.rest)) (number_then rest)
+    option_and_then (λ r. option_map (λ n. record { replica = r.number; named = n.number; text = n.rest })
+    (number_then r.rest)) (number_then rest)
 
 -- the search of these parts: the request is the one that their text writes
 pub record IsSearchOf (parts : SearchParts) (e : EventValue) : Type 0 where
@@ -141,7 +149,8 @@ IsLineOf (request_line rest) line es = IsOne (IsRequest rest) es
 IsLineOf (search_line rest) line es = IsOne (IsSearch rest) es
 IsLineOf plain_line line es = events_by_words line ≡ Some es
 
--- The events that a line after the first names: `request R C N OP`, `search R NAMED BASE|SCOPE|FILTER`, `deliver K ..`, `suspect R`, `beat R`,
+-- The events that a line after the first names: `request R C N OP`, `search R NAMED BASE|SCOPE|FILTER`, `deliver K ..`,
+-- `suspect R`, `beat R`,
 -- `crash R`, `recover R X`, `resume R`, `resume R K` and `state R`, and no other line.
 abbrev pub IsLine : List ℕ → List EventValue → Type 0
 IsLine line es = IsLineOf (kind_of line) line es

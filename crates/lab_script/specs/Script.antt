@@ -29,7 +29,8 @@ pub record IsInLanguage (line : List ℕ) : Type 0 where
 -- the first of these lines that isn't in the language has this number, the first of them having number p
 abbrev pub IsFirstBad : ℕ → List (List ℕ) → ℕ → Type 0
 IsFirstBad p [] n = ⊥
-IsFirstBad p (line ∷ lines) n = ((n ≡ p) × ((es : List EventValue) → IsLine line es → ⊥)) ⊎ (IsInLanguage line × IsFirstBad (p + 1) lines n)
+IsFirstBad p (line ∷ lines) n = ((n ≡ p) × ((es : List EventValue) → IsLine line es → ⊥))
+    ⊎ (IsInLanguage line × IsFirstBad (p + 1) lines n)
 
 -- a first line that names how many replicas there are
 pub record IsFirst (line : List ℕ) : Type 0 where

@@ -23,7 +23,8 @@ abbrev pub line_cut : Option Cut → Option ValueModel
 line_cut None = None
 line_cut (Some k) = line_of (record { front = k.front; behind = behind_spaces k.behind })
 
--- `type: value`: the value is all that stands behind the first colon with a space behind it, and behind that and further spaces
+-- `type: value`: the value is all that stands behind the first colon with a space behind it, and behind that and
+-- further spaces
 abbrev pub line_in : List ℕ → Option ValueModel
 line_in piece = line_cut (cut_pair piece)
 
@@ -107,6 +108,7 @@ IsUpdateOf (delete_kind rest) op = delete_in rest ≡ Some op
 IsUpdateOf (hex_kind rest) op = IsHexText rest op
 IsUpdateOf no_kind op = ⊥
 
--- The update that a text writes: `noop`, `add DN|type: value|..`, `delete DN` or `hex MESSAGE`, and no other text writes one.
+-- The update that a text writes: `noop`, `add DN|type: value|..`, `delete DN` or `hex MESSAGE`, and no other text
+-- writes one.
 abbrev pub IsUpdateText : List ℕ → OpValue → Type 0
 IsUpdateText text op = IsUpdateOf (kind_of text) op

@@ -20,7 +20,8 @@ pub record TakesLength (bs : List ℕ) (x : ℕ × List ℕ) : Type 0 where
   pub is_length : IsLength octets x.0
   pub parts : bs ≡ octets ++ x.1
 
-pub is_long : (a : ℕ) (bs : List ℕ) → 0 < length bs → a ≡ 128 + length bs → a < 133 → AreOctets bs → IsLength (a ∷ bs) (number bs)
+pub is_long : (a : ℕ) (bs : List ℕ) → 0 < length bs → a ≡ 128 + length bs → a < 133 → AreOctets bs →
+    IsLength (a ∷ bs) (number bs)
 is_long a [] some e small octets = absurd (omega arith)
 is_long a (b ∷ bs) some e small octets = (omega arith, small, octets, refl)
 
@@ -41,7 +42,8 @@ length_case a bs =
     let above : 128 < a = omega arith in
     cond_both (ltb 132 a) _ _ (LengthCase a bs) (λ e. too_long (ltb-true 132 a e)) (λ e₃.
     let small : a < 133 = omega (arith, ltb-false 132 a e₃) in
-    cond_both (ltb (length bs) (a - 128)) _ _ (LengthCase a bs) (λ e. cut above small (ltb-true _ _ e)) (λ e. long above small (ltb-false _ _ e)))))
+    cond_both (ltb (length bs) (a - 128)) _ _ (LengthCase a bs) (λ e. cut above small (ltb-true _ _ e))
+    (λ e. long above small (ltb-false _ _ e)))))
 
 -- what stands in the place of a length
 pub data LengthFault : List ℕ → BerFault → Type 0 where
@@ -50,7 +52,8 @@ pub data LengthFault : List ℕ → BerFault → Type 0 where
   no_end : {a : ℕ} {bs : List ℕ} → a ≡ 128 → LengthFault (a ∷ bs) Indefinite
   many : {a : ℕ} {bs : List ℕ} → 132 < a → LengthFault (a ∷ bs) LengthTooLong
 
-takes : (a : ℕ) (bs : List ℕ) (r : Result (ℕ × List ℕ) BerFault) → AreOctets (a ∷ bs) → LengthCase a bs r → MatchResult r (TakesLength (a ∷ bs)) (LengthFault (a ∷ bs))
+takes : (a : ℕ) (bs : List ℕ) (r : Result (ℕ × List ℕ) BerFault) → AreOctets (a ∷ bs) → LengthCase a bs r →
+    MatchResult r (TakesLength (a ∷ bs)) (LengthFault (a ∷ bs))
 takes a bs (Ok y) octets (short small) = record { octets = a ∷ []; is_length = (small, refl); parts = refl }
 takes a bs (Ok y) octets (long above small enough) =
     let len : length (take (a - 128) bs) ≡ a - 128 = omega (arith, length-take (a - 128) bs) in
@@ -77,5 +80,6 @@ length_again (a ∷ b ∷ bs) n rest h =
     let e₂ : eqb a 128 ≡ false = ne_eqb a 128 (λ e. omega (arith, h.0)) in
     let e₃ : ltb 132 a ≡ false = le-ltb 132 a (omega (arith, h.1)) in
     let k : length (b ∷ bs) ≡ a - 128 = omega (arith, h.0) in
-    let e₄ : ltb (length ((b ∷ bs) ++ rest)) (a - 128) ≡ false = le-ltb _ _ (omega (arith, length-append (b ∷ bs) rest)) in
+    let e₄ : ltb (length ((b ∷ bs) ++ rest)) (a - 128) ≡ false =
+    le-ltb _ _ (omega (arith, length-append (b ∷ bs) rest)) in
     rw (e₁, e₂, e₃, e₄, take_at (b ∷ bs) rest (a - 128) k, drop_at (b ∷ bs) rest (a - 128) k, ← h.3) refl

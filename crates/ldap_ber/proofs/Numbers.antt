@@ -18,11 +18,14 @@ fits n b i len small octet lt le =
     let most : 2 ^ (8 * (i + 1)) ≤ 2 ^ 64 = pow_mono below in
     omega (arith, grows n b i small octet, most)
 
-pub number_more : (xs : List ℕ) (i : ℕ) → i < length xs → number (take (i + 1) xs) ≡ number (take i xs) * 256 + get_or xs i 0
+pub number_more : (xs : List ℕ) (i : ℕ) → i < length xs → number (take (i + 1) xs) ≡ number (take i xs) * 256 + get_or
+    xs i 0
 number_more xs i lt = rw (take_more xs i 0 lt) (fold_push (λ n b. n * 256 + b) 0 (take i xs) (get_or xs i 0))
 
-pub number_more_map : (f : ℕ → ℕ) (xs : List ℕ) (i : ℕ) → i < length xs → number (map f (take (i + 1) xs)) ≡ number (map f (take i xs)) * 256 + f (get_or xs i 0)
-number_more_map f xs i lt = rw (take_more xs i 0 lt, map_push f (take i xs) (get_or xs i 0)) (fold_push (λ n b. n * 256 + b) 0 (map f (take i xs)) (f (get_or xs i 0)))
+pub number_more_map : (f : ℕ → ℕ) (xs : List ℕ) (i : ℕ) → i < length xs → number (map f (take (i + 1) xs)) ≡
+    number (map f (take i xs)) * 256 + f (get_or xs i 0)
+number_more_map f xs i lt = rw (take_more xs i 0 lt, map_push f (take i xs) (get_or xs i 0))
+    (fold_push (λ n b. n * 256 + b) 0 (map f (take i xs)) (f (get_or xs i 0)))
 
 pub octets_from : (bs : List ℕ) → ((i : ℕ) → get_or bs i 0 < 256) → AreOctets bs
 octets_from [] h = tt
@@ -33,7 +36,8 @@ octets-take zero bs h = tt
 octets-take (suc n) [] h = tt
 octets-take (suc n) (b ∷ bs) h = (h.0, octets-take n bs h.1)
 
-pub fold_below : (n k : ℕ) (bs : List ℕ) → n < 2 ^ k → AreOctets bs → fold (λ n b. n * 256 + b) n bs < 2 ^ (k + 8 * length bs)
+pub fold_below : (n k : ℕ) (bs : List ℕ) → n < 2 ^ k → AreOctets bs → fold (λ n b. n * 256 + b) n bs < 2 ^
+    (k + 8 * length bs)
 fold_below n k [] small octets = rw add-zero small
 fold_below n k (b ∷ bs) small octets =
     let octet : b < 256 = octets.0 in

@@ -7,14 +7,16 @@ use Rattle.ldap_ber.specs.Number.{number}
 abbrev pub AreOctets : List ℕ → Type 0
 AreOctets bs = AllByRecursion (λ b. b < 256) bs
 
--- The octets that spell a length (X.690 8.1.3.4, 8.1.3.5; RFC 4511 5.1): the length alone, below 128, or how many octets follow, from 129 to 132,
+-- The octets that spell a length (X.690 8.1.3.4, 8.1.3.5; RFC 4511 5.1): the length alone, below 128, or how many
+-- octets follow, from 129 to 132,
 -- and the length in those. Zeros in front are allowed, so a length has several spellings.
 abbrev pub IsLength : List ℕ → ℕ → Type 0
 IsLength [] n = ⊥
 IsLength (a ∷ []) n = (a < 128) × (n ≡ a)
 IsLength (a ∷ b ∷ bs) n = (a ≡ 129 + length bs) × (a < 133) × AreOctets (b ∷ bs) × (n ≡ number (b ∷ bs))
 
--- An element (X.690 8.1.1): the identifier octet, whose low five bits are not all ones (X.690 8.1.2.2), the length and the content.
+-- An element (X.690 8.1.1): the identifier octet, whose low five bits are not all ones (X.690 8.1.2.2), the length and
+-- the content.
 pub record IsElement (octets : List ℕ) (first : ℕ) (content : List ℕ) : Type 0 where
   pub low_tag : first % 32 < 31
   pub len_octets : List ℕ

@@ -32,7 +32,8 @@ abbrev pub digits : ℕ → ℕ → List ℕ
 digits zero n = []
 digits (suc k) n = digits k (n / 256) ++ n % 256 ∷ []
 
--- How many octets a two's complement takes whose bits after the sign are those of n (X.690 8.3.2): with one bit for the sign.
+-- How many octets a two's complement takes whose bits after the sign are those of n (X.690 8.3.2): with one bit for the
+-- sign.
 abbrev pub width : ℕ → ℕ
 width n =
     if nat_lt n (2 ^ 7) then 1

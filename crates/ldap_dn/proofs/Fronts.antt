@@ -36,7 +36,8 @@ keys_same (x ∷ xs) [] e = absurd (cc)
 keys_same (x ∷ xs) (y ∷ ys) e =
     let p = both (nat_eq x.kind y.kind && bytes_eq x.key y.key) (are_same_keys xs ys) e in
     let q = both (nat_eq x.kind y.kind) (bytes_eq x.key y.key) p.0 in
-    joined x y xs ys (same_fields x y (eqb-true x.kind y.kind q.0) ((bytes_eq-Decides x.key y.key).0 q.1)) (keys_same xs ys p.1)
+    joined x y xs ys (same_fields x y (eqb-true x.kind y.kind q.0) ((bytes_eq-Decides x.key y.key).0 q.1))
+    (keys_same xs ys p.1)
 
 pub same_keys : (xs ys : List TypeAndKey) → xs ≡ ys → are_same_keys xs ys ≡ true
 same_keys [] [] e = refl
@@ -89,18 +90,21 @@ below_front (x ∷ xs) (y ∷ ys) h =
     (same_keys y.keys x.keys (sym (heads x.keys y.keys (rdns xs) (rdns ys ++ h.0 ∷ h.1) h.2)))
     (below_front xs ys (h.0, h.1, tails x.keys y.keys (rdns xs) (rdns ys ++ h.0 ∷ h.1) h.2))
 
-pub same_answer : (a b x y : List RdnModel) (r : Bool) (m n : ℕ) → m ≡ length a → n ≡ length b → m ≡ n → x ≡ a → y ≡ b → r ≡ is_front x y → IsTrue r ↔ IsSameName a b
+pub same_answer : (a b x y : List RdnModel) (r : Bool) (m n : ℕ) → m ≡ length a → n ≡ length b → m ≡ n → x ≡ a →
+    y ≡ b → r ≡ is_front x y → IsTrue r ↔ IsSameName a b
 same_answer a b x y r m n l k e p q h =
     let f : r ≡ is_front a b = h ∙ ap (λ z. is_front z y) p ∙ ap (is_front a) q in
     (λ t. same_from a b (sym l ∙ e ∙ k) (sym f ∙ t), λ s. f ∙ same_front a b s)
 
-pub below_answer : (a b x y : List RdnModel) (r : Bool) (m n : ℕ) → m ≡ length a → n ≡ length b → n < m → x ≡ a → y ≡ b → r ≡ is_front y x → IsTrue r ↔ IsBelow a b
+pub below_answer : (a b x y : List RdnModel) (r : Bool) (m n : ℕ) → m ≡ length a → n ≡ length b → n < m → x ≡ a →
+    y ≡ b → r ≡ is_front y x → IsTrue r ↔ IsBelow a b
 below_answer a b x y r m n l k e p q h =
     let f : r ≡ is_front b a = h ∙ ap (λ z. is_front y z) p ∙ ap (λ z. is_front z a) q in
     (λ t. below_from a b (omega (arith, l, k, e)) (sym f ∙ t), λ s. f ∙ below_front a b s)
 
 -- names are one by their relative names in turn
-pub same_rdns : (a b : List RdnModel) → pointwise (λ (x y : RdnModel). are_same_keys x.keys y.keys) a b ≡ name_eq (rdns a) (rdns b)
+pub same_rdns : (a b : List RdnModel) → pointwise (λ (x y : RdnModel). are_same_keys x.keys y.keys) a b ≡
+    name_eq (rdns a) (rdns b)
 same_rdns [] [] = refl
 same_rdns [] (y ∷ ys) = refl
 same_rdns (x ∷ xs) [] = refl

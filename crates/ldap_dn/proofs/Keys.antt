@@ -5,7 +5,8 @@ use Rattle.std.specs.Str.{is_utf8}
 use Rattle.ldap_syntax.specs.Meaning.{Meaning}
 use Rattle.ldap_dn.specs.Texts.{meant, text_of}
 
-pub meant_found : (m : Option Meaning) (k : Option (List ℕ)) (x : List ℕ) → (m ≡ None → ⊥) → k ≡ Some x → meant m k ≡ Some x
+pub meant_found : (m : Option Meaning) (k : Option (List ℕ)) (x : List ℕ) → (m ≡ None → ⊥) → k ≡ Some x →
+    meant m k ≡ Some x
 meant_found None k x some e = absurd (some refl)
 meant_found (Some m) k x some e = e
 

@@ -19,7 +19,8 @@ module _ (c : ℕ) (h : is_plain c ≡ true) where
   ascii = (and_parts (nat_lt 0 c && nat_lt c 128) (not (is_special c)) h).0
 
   some : nat_eq c 0 ≡ false
-  some = let low = ltb-true 0 c (and_parts (nat_lt 0 c) (nat_lt c 128) ascii).0 in ne_eqb c 0 (λ e. omega (arith, e, low))
+  some = let low = ltb-true 0 c (and_parts (nat_lt 0 c) (nat_lt c 128) ascii).0 in ne_eqb c 0
+      (λ e. omega (arith, e, low))
 
   below : c < 128
   below = ltb-true c 128 (and_parts (nat_lt 0 c) (nat_lt c 128) ascii).1
@@ -36,21 +37,26 @@ module _ (c : ℕ) (h : is_plain c ≡ true) where
   at_end false x k = refl
 
   -- it isn't escaped but as the first or the last
-  free : (first last : Bool) → (first ≡ true → (nat_eq c 32 || nat_eq c 35) ≡ false) → (last ≡ true → nat_eq c 32 ≡ false) → is_escaped first last c ≡ false
+  free : (first last : Bool) → (first ≡ true → (nat_eq c 32 || nat_eq c 35) ≡ false) →
+      (last ≡ true → nat_eq c 32 ≡ false) → is_escaped first last c ≡ false
   free first last k l =
       or_from (is_special c || (first && (nat_eq c 32 || nat_eq c 35))) (last && nat_eq c 32)
-      (or_from (is_special c) (first && (nat_eq c 32 || nat_eq c 35)) unspecial (at_end first (nat_eq c 32 || nat_eq c 35) k)) (at_end last (nat_eq c 32) l)
+      (or_from (is_special c) (first && (nat_eq c 32 || nat_eq c 35)) unspecial
+      (at_end first (nat_eq c 32 || nat_eq c 35) k)) (at_end last (nat_eq c 32) l)
 
-from : (first : Bool) (c : ℕ) (cs : List ℕ) (z : ℕ) → list_all is_plain (c ∷ cs) ≡ true → (first ≡ true → (nat_eq c 32 || nat_eq c 35) ≡ false)
+from : (first : Bool) (c : ℕ) (cs : List ℕ) (z : ℕ) → list_all is_plain (c ∷ cs) ≡ true →
+    (first ≡ true → (nat_eq c 32 || nat_eq c 35) ≡ false)
     → slice_get (c ∷ cs) (length cs) ≡ Some z → nat_eq z 32 ≡ false → printed_from first (c ∷ cs) ≡ c ∷ cs
 from first c [] z h k l s =
     let p = and_parts (is_plain c) (list_all is_plain []) h in
-    ap (λ (x : List ℕ). x ++ []) (alone c p.0 (is_escaped first true c) (free c p.0 first true k (λ t. ap (λ (n : ℕ). nat_eq n 32) (same_some l) ∙ s)))
+    ap (λ (x : List ℕ). x ++ []) (alone c p.0 (is_escaped first true c)
+    (free c p.0 first true k (λ t. ap (λ (n : ℕ). nat_eq n 32) (same_some l) ∙ s)))
 from first c (d ∷ ds) z h k l s =
     let p = and_parts (is_plain c) (list_all is_plain (d ∷ ds)) h in
     let more : nat_eq (suc (length ds)) 0 ≡ false = ne_eqb (suc (length ds)) 0 (λ e. omega (arith, e)) in
     ap (λ (b : Bool). printed_character (is_escaped first b c) c ++ printed_from false (d ∷ ds)) more
-    ∙ ap (λ (x : List ℕ). x ++ printed_from false (d ∷ ds)) (alone c p.0 (is_escaped first false c) (free c p.0 first false k (λ t. absurd (true≢false (sym t)))))
+    ∙ ap (λ (x : List ℕ). x ++ printed_from false (d ∷ ds)) (alone c p.0 (is_escaped first false c)
+    (free c p.0 first false k (λ t. absurd (true≢false (sym t)))))
     ∙ ap (λ (x : List ℕ). c ∷ x) (from false d ds z p.1 (λ t. absurd (true≢false (sym t))) l s)
 
 is_ascii : (bs : List ℕ) → list_all is_plain bs ≡ true → IsAscii bs
@@ -59,7 +65,8 @@ is_ascii (b ∷ bs) h zero = below b (and_parts (is_plain b) (list_all is_plain 
 is_ascii (b ∷ bs) h (suc i) = is_ascii bs (and_parts (is_plain b) (list_all is_plain bs) h).1 i
 
 -- such a value is printed as it is
-pub printed_plain : (v : List ℕ) (a z : ℕ) → slice_get v 0 ≡ Some a → slice_get v (length v - 1) ≡ Some z → are_plain_ends a z ≡ true → list_all is_plain v ≡ true → printed_value v ≡ v
+pub printed_plain : (v : List ℕ) (a z : ℕ) → slice_get v 0 ≡ Some a → slice_get v (length v - 1) ≡ Some z →
+    are_plain_ends a z ≡ true → list_all is_plain v ≡ true → printed_value v ≡ v
 printed_plain [] a z f l p h = absurd (none f)
   where
     none : None ≡ Some a → ⊥
@@ -70,7 +77,8 @@ printed_plain (c ∷ cs) a z f l p h =
     let behind : length cs ≡ suc (length cs) - 1 = omega arith in
     ap (printed_from true) (chars-IsAscii (c ∷ cs) (is_ascii (c ∷ cs) h))
     ∙ from true c cs z h
-    (λ t. or_from (nat_eq c 32) (nat_eq c 35) (ap (λ (n : ℕ). nat_eq n 32) (same_some f) ∙ is_not (nat_eq a 32) two.0) (ap (λ (n : ℕ). nat_eq n 35) (same_some f) ∙ is_not (nat_eq a 35) two.1))
+    (λ t. or_from (nat_eq c 32) (nat_eq c 35) (ap (λ (n : ℕ). nat_eq n 32) (same_some f) ∙ is_not (nat_eq a 32) two.0)
+    (ap (λ (n : ℕ). nat_eq n 35) (same_some f) ∙ is_not (nat_eq a 35) two.1))
     (ap (λ (n : ℕ). slice_get (c ∷ cs) n) behind ∙ l) (is_not (nat_eq z 32) one.1)
 
 pub printed_nothing : (v : List ℕ) → slice_get v 0 ≡ None → printed_value v ≡ v

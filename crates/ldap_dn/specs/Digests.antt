@@ -1,4 +1,5 @@
--- Digests of relative names: numbers that tell most of them apart. RFC 4512 2.3.2 (names are told apart by types and keys alone).
+-- Digests of relative names: numbers that tell most of them apart. RFC 4512 2.3.2 (names are told apart by types and
+-- keys alone).
 use Rattle.std.specs.Prelude.{ℕ, ◌+◌, ◌*◌, ◌%◌, ◌^◌, List, [], ◌∷◌}
 use Rattle.ldap_dn.specs.Names.{TypeAndKey}
 

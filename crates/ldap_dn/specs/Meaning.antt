@@ -12,7 +12,8 @@ use Rattle.ldap_schema.specs.Schema.{SchemaModel, find, class_named}
 
 -- the object identifier of the type of a number, or else of the class of a name
 abbrev pub type_or_class_oid : SchemaModel → List ℕ → Option ℕ → Option (List ℕ)
-type_or_class_oid s name None = option_and_then (λ c. option_map (λ d. d.oid) (slice_get s.classes c)) (class_named s name)
+type_or_class_oid s name None = option_and_then (λ c. option_map (λ d. d.oid) (slice_get s.classes c))
+    (class_named s name)
 type_or_class_oid s name (Some t) = option_map (λ d. d.oid) (slice_get s.types t)
 
 -- the object identifier that a name of a type, or else of a class, stands for

@@ -7,7 +7,8 @@ use Rattle.ldap_dn.specs.Names.{TypeAndValue, RdnModel}
 abbrev pub is_special : ℕ → Bool
 is_special c = nat_eq c 34 || nat_eq c 43 || nat_eq c 44 || nat_eq c 59 || nat_eq c 60 || nat_eq c 62 || nat_eq c 92
 
--- whether a character is escaped, as the first one, the last one, or any: SPACE at both ends, `#` as the first (RFC 4514 2.4)
+-- whether a character is escaped, as the first one, the last one, or any: SPACE at both ends, `#` as the first (RFC
+-- 4514 2.4)
 abbrev pub is_escaped : Bool → Bool → ℕ → Bool
 is_escaped first last c = is_special c || (first && (nat_eq c 32 || nat_eq c 35)) || (last && nat_eq c 32)
 

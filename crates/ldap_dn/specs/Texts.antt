@@ -58,7 +58,8 @@ type_of s ts = cond (list_all is_unescaped ts) (find s (map octet_of ts)) None
 -- the unescaped tokens that a value may have: all but `"`, `+`, `,`, `;`, `<`, `>` and NUL (RFC 4514 2.4)
 abbrev pub is_value_octet : Token → Bool
 is_value_octet t =
-    not (is_plain 34 t || is_plain 43 t || is_plain 44 t || is_plain 59 t || is_plain 60 t || is_plain 62 t || is_plain 0 t)
+    not (is_plain 34 t || is_plain 43 t || is_plain 44 t || is_plain 59 t || is_plain 60 t || is_plain 62 t ||
+    is_plain 0 t)
 
 -- whether the front is an unescaped `#`
 abbrev pub begins_with_hash : List Token → Bool
@@ -115,7 +116,8 @@ abbrev pub keyed : ℕ → Option (List ℕ) → Option TypeAndKey
 keyed t None = None
 keyed t (Some k) = Some (record { kind = t; key = k })
 
--- a type with the key of its value: the type has an EQUALITY rule, under which the value means something (RFC 4512 2.5.1)
+-- a type with the key of its value: the type has an EQUALITY rule, under which the value means something (RFC 4512
+-- 2.5.1)
 abbrev pub type_and_key_of : SchemaModel → TypeAndValue → Option TypeAndKey
 type_and_key_of s v = keyed v.kind (option_and_then (λ r. family_key s r r.family v.value) (equality_of s v.kind))
 

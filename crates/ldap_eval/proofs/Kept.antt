@@ -150,7 +150,8 @@ sole_syntax family.Time = Some syntax.GeneralizedTime
 sole_syntax family.Ia5 = None
 sole_syntax family.Ia5Exact = None
 
-pub sole_used : (f : Family) (x y : Syntax) → is_used_on f x ≡ true → is_textual x ≡ false → is_used_on f y ≡ true → sole_syntax f ≡ Some y
+pub sole_used : (f : Family) (x y : Syntax) → is_used_on f x ≡ true → is_textual x ≡ false → is_used_on f y ≡ true →
+    sole_syntax f ≡ Some y
 sole_used family.Identifier x syntax.Boolean u t w = absurd (cc)
 sole_used family.Identifier x syntax.DistinguishedName u t w = absurd (cc)
 sole_used family.Identifier x syntax.DirectoryString u t w = absurd (cc)
@@ -257,11 +258,13 @@ sole_used family.Ia5Exact syntax.TelephoneNumber y u t w = absurd (cc)
 some_is : {A : Type 0} (x y : A) (o : Option A) → o ≡ Some x → o ≡ Some y → x ≡ y
 some_is x y o a b = cc
 
-rule_of_both : (r : Rule) (f : Family) (x : Syntax) → r.family ≡ f → r.syntax ≡ x → r ≡ record { family = f; syntax = x }
+rule_of_both : (r : Rule) (f : Family) (x : Syntax) → r.family ≡ f → r.syntax ≡ x →
+    r ≡ record { family = f; syntax = x }
 rule_of_both r f x a b = ap₂ (λ (h : Family) (z : Syntax). let q : Rule = record { family = h; syntax = z } in q) a b
 
 -- an EQUALITY rule of a family on a syntax whose values are no text is that of the two
-rule_is : (q : Rule) (f : Family) (x : Syntax) → is_used_on f x ≡ true → is_textual x ≡ false → is_rule_of (Some q) f x ≡ true → q ≡ record { family = f; syntax = x }
+rule_is : (q : Rule) (f : Family) (x : Syntax) → is_used_on f x ≡ true → is_textual x ≡ false →
+    is_rule_of (Some q) f x ≡ true → q ≡ record { family = f; syntax = x }
 rule_is q f x u t h =
     let on_x : is_used_on q.family x ≡ true = and_left (is_used_on q.family x) (is_used_on f q.syntax) h in
     let on_y : is_used_on f q.syntax ≡ true = and_right (is_used_on q.family x) (is_used_on f q.syntax) h in
@@ -269,7 +272,8 @@ rule_is q f x u t h =
     (some_is q.family f (sole_family x) (sole q.family x on_x t) (sole f x u t))
     (some_is q.syntax x (sole_syntax f) (sole_used f x q.syntax u t on_y) (sole_used f x x u t u))
 
--- where an item goes by keys, its rule is the type's own; else the rule is one of text; and it orders, where an order is asked for
+-- where an item goes by keys, its rule is the type's own; else the rule is one of text; and it orders, where an order
+-- is asked for
 pub record RuleFits (s : SchemaModel) (h : How) (t : ℕ) (r : Rule) : Type 0 where
   pub kept : goes_by_key s h t ≡ true → equality_of s t ≡ Some r
   pub used : goes_by_key s h t ≡ false → is_used_on r.family r.syntax ≡ true
@@ -282,7 +286,8 @@ record Fits (d : TypeModel) (f : Family) (r : Rule) : Type 0 where
   used : is_used_on f d.syntax ≡ true
   kept : is_textual d.syntax ≡ false → d.equality ≡ Some r
 
-kept_is : (o : Option Rule) (r : Rule) (f : Family) (x : Syntax) → r ≡ record { family = f; syntax = x } → is_used_on f x ≡ true → is_textual x ≡ false → is_rule_of o f x ≡ true → o ≡ Some r
+kept_is : (o : Option Rule) (r : Rule) (f : Family) (x : Syntax) → r ≡ record { family = f; syntax = x } →
+    is_used_on f x ≡ true → is_textual x ≡ false → is_rule_of o f x ≡ true → o ≡ Some r
 kept_is None r f x e u t h = absurd (cc)
 kept_is (Some q) r f x e u t h = ap Some (rule_is q f x u t h ∙ sym e)
 
@@ -290,7 +295,9 @@ or_else : (a b : Bool) → (a || b) ≡ true → a ≡ false → b ≡ true
 or_else true b h e = absurd (cc)
 or_else false b h e = h
 
-fits_by : (d : TypeModel) (f : Family) (r : Rule) (b : Bool) → (is_used_on f d.syntax && is_own_or_text d.syntax d.equality f) ≡ b → cond b (Some (record { family = f; syntax = d.syntax })) None ≡ Some r → Fits d f r
+fits_by : (d : TypeModel) (f : Family) (r : Rule) (b : Bool) →
+    (is_used_on f d.syntax && is_own_or_text d.syntax d.equality f) ≡ b →
+    cond b (Some (record { family = f; syntax = d.syntax })) None ≡ Some r → Fits d f r
 fits_by d f r false h e = absurd (cc)
 fits_by d f r true h e =
     let q : Rule = record { family = f; syntax = d.syntax } in
@@ -299,7 +306,9 @@ fits_by d f r true h e =
     record {
       is = same;
       used = u;
-      kept = λ t. kept_is d.equality r f d.syntax same u t (or_else (is_textual d.syntax) (is_rule_of d.equality f d.syntax) (and_right (is_used_on f d.syntax) (is_own_or_text d.syntax d.equality f) h) t);
+      kept = λ t. kept_is d.equality r f d.syntax same u t (or_else (is_textual d.syntax)
+          (is_rule_of d.equality f d.syntax) (and_right (is_used_on f d.syntax) (is_own_or_text d.syntax d.equality f)
+          h) t);
     }
 
 not_true : (b : Bool) → not b ≡ true → b ≡ false
@@ -310,11 +319,14 @@ not_false : (b : Bool) → not b ≡ false → b ≡ true
 not_false true h = refl
 not_false false h = absurd (cc)
 
-named_fits : (s : SchemaModel) (q : NamedRule) (t : ℕ) (r : Rule) (o : Option TypeModel) → slice_get s.types t ≡ o → supported_in o q.family ≡ Some r → RuleFits s (how.Named q) t r
+named_fits : (s : SchemaModel) (q : NamedRule) (t : ℕ) (r : Rule) (o : Option TypeModel) → slice_get s.types t ≡ o →
+    supported_in o q.family ≡ Some r → RuleFits s (how.Named q) t r
 named_fits s q t r None e h = absurd (cc)
 named_fits s q t r (Some d) e h =
-    let f : Fits d q.family r = fits_by d q.family r (is_used_on q.family d.syntax && is_own_or_text d.syntax d.equality q.family) refl h in
-    let text_is : is_text_type s t ≡ is_textual d.syntax = ap (λ (o : Option TypeModel). option_map_or (λ (x : TypeModel). is_textual x.syntax) o false) e in
+    let f : Fits d q.family r = fits_by d q.family r (is_used_on q.family d.syntax && is_own_or_text d.syntax
+    d.equality q.family) refl h in
+    let text_is : is_text_type s t ≡ is_textual d.syntax = ap (λ (o : Option TypeModel). option_map_or
+    (λ (x : TypeModel). is_textual x.syntax) o false) e in
     record {
       kept = λ g. ap equality_in e ∙ f.kept (sym text_is ∙ not_true (is_text_type s t) g);
       used = λ g. ap₂ is_used_on (ap (λ (x : Rule). x.family) f.is) (ap (λ (x : Rule). x.syntax) f.is) ∙ f.used;
@@ -323,11 +335,18 @@ named_fits s q t r (Some d) e h =
     }
 
 pub rule_fits : (s : SchemaModel) (h : How) (t : ℕ) (r : Rule) → rule_for s h t ≡ Some r → RuleFits s h t r
-rule_fits s how.Own t r e = record { kept = λ g. e; used = λ g. absurd (cc); text = λ g. absurd (cc); orders = λ l. absurd (cc) }
+rule_fits s how.Own t r e = record {
+  kept = λ g. e;
+  used = λ g. absurd (cc);
+  text = λ g. absurd (cc);
+  orders = λ l.
+      absurd (cc);
+}
 rule_fits s (how.Named q) t r e = named_fits s q t r (slice_get s.types t) refl e
 
 -- a rule of text minds no schema
-pub text_key_is : (s : SchemaModel) (f : Family) (x : Syntax) (v : List ℕ) → is_used_on f x ≡ true → is_textual x ≡ true → key_at s (record { family = f; syntax = x }) v ≡ syntax_keys.key_at (record { family = f; syntax = x }) v
+pub text_key_is : (s : SchemaModel) (f : Family) (x : Syntax) (v : List ℕ) → is_used_on f x ≡ true → is_textual x ≡
+    true → key_at s (record { family = f; syntax = x }) v ≡ syntax_keys.key_at (record { family = f; syntax = x }) v
 text_key_is s family.Identifier syntax.Boolean v u t = absurd (cc)
 text_key_is s family.Identifier syntax.DistinguishedName v u t = absurd (cc)
 text_key_is s family.Identifier syntax.DirectoryString v u t = absurd (cc)

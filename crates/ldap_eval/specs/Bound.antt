@@ -38,7 +38,8 @@ match_on_name_pair m p = cond (nat_eq p.kind m.type_id) (match_pair m.test p) Fa
 
 -- a match on an entry: the `or` over the pairs of its name, or over its attributes
 abbrev pub match_of_entry : List RdnModel → List KeyedAttribute → Match → Truth
-match_of_entry n e m = cond m.in_name (disjunction (map (match_on_name_pair m) (pairs_of n))) (disjunction (map (match_on m) e))
+match_of_entry n e m = cond m.in_name (disjunction (map (match_on_name_pair m) (pairs_of n)))
+    (disjunction (map (match_on m) e))
 
 -- one level, with each part already valued
 abbrev pub value_step : List RdnModel → List KeyedAttribute → BoundFilter-F Truth → Truth
@@ -61,7 +62,8 @@ leaf_if false leaf leaves = leaves
 -- from a number on, a leaf for each type under a type, with the test that an item makes of it
 abbrev pub leaves_from : SchemaModel → Item → ℕ → List TypeModel → ℕ → List BoundFilter
 leaves_from s item t [] i = []
-leaves_from s item t (x ∷ xs) i = leaf_if (is_under s i t) (bound.Leaf (record { type_id = i; test = test_for s item i })) (leaves_from s item t xs (i + 1))
+leaves_from s item t (x ∷ xs) i = leaf_if (is_under s i t)
+    (bound.Leaf (record { type_id = i; test = test_for s item i })) (leaves_from s item t xs (i + 1))
 
 -- a leaf for each type under a type
 abbrev pub leaves_for : SchemaModel → Item → ℕ → List BoundFilter
@@ -71,7 +73,8 @@ leaves_for s item t = leaves_from s item t s.types 0
 abbrev pub matches_from : SchemaModel → How → Option ℕ → List ℕ → Bool → List TypeModel → ℕ → List BoundFilter
 matches_from s h t a dn [] i = []
 matches_from s h t a dn (x ∷ xs) i =
-    leaf_if (is_looked_at s h t i) (bound.Match (record { type_id = i; test = match_for s h a i; in_name = dn })) (matches_from s h t a dn xs (i + 1))
+    leaf_if (is_looked_at s h t i) (bound.Match (record { type_id = i; test = match_for s h a i; in_name = dn }))
+    (matches_from s h t a dn xs (i + 1))
 
 -- a match for each type that an extensible item looks at, on the attributes or on the name's pairs
 abbrev pub matches_for : SchemaModel → How → Option ℕ → List ℕ → Bool → List BoundFilter
@@ -81,6 +84,8 @@ matches_for s h t a dn = matches_from s h t a dn s.types 0
 abbrev pub matches_with : SchemaModel → How → Option ℕ → List ℕ → Bool → List BoundFilter
 matches_with s h t a dn = matches_for s h t a false ++ cond dn (matches_for s h t a true) []
 
--- A bound filter stands for a filter under a schema: it has the filter's value on every entry that is keyed by the schema.
+-- A bound filter stands for a filter under a schema: it has the filter's value on every entry that is keyed by the
+-- schema.
 abbrev pub IsBoundTo : SchemaModel → Tree → BoundFilter → Type 0
-IsBoundTo s t b = (n : List RdnModel) (e : List KeyedAttribute) → IsKeyedBy s e → bound_value n e b ≡ filter_value s t n (attributes_of e)
+IsBoundTo s t b = (n : List RdnModel) (e : List KeyedAttribute) → IsKeyedBy s e → bound_value n e b ≡ filter_value s t
+    n (attributes_of e)

@@ -34,7 +34,8 @@ pub record IsNotOf (P : BoundFilter → Type 0) (b : BoundFilter) : Type 0 where
   pub is : b ≡ bound.Not part
   pub hold : P part.value
 
--- An item on a type is the `or` of its leaves, one for each type under the type; Undefined, where the type can't answer it.
+-- An item on a type is the `or` of its leaves, one for each type under the type; Undefined, where the type can't answer
+-- it.
 pub record IsItemOn (s : SchemaModel) (asked : Item) (t : ℕ) (b : BoundFilter) : Type 0 where
   pub answered : is_answerable s asked t ≡ true → IsOrOf (λ bs. bs ≡ leaves_for s asked t) b
   pub unanswered : is_answerable s asked t ≡ false → b ≡ bound.Undefined
@@ -49,13 +50,16 @@ abbrev pub type_with_equality : SchemaModel → Bool → Option ℕ → Option �
 type_with_equality s in_name None = None
 type_with_equality s in_name (Some t) = cond (not in_name && is_some (equality_of s t)) (Some t) None
 
--- Whether an extensible item is an equality item: it names a type and no rule, does not ask for the name's pairs, and the type has an EQUALITY rule.
+-- Whether an extensible item is an equality item: it names a type and no rule, does not ask for the name's pairs, and
+-- the type has an EQUALITY rule.
 abbrev pub is_equality_item : SchemaModel → ExtensibleValue → Option How → Option (Option ℕ) → Bool
 is_equality_item s x (Some how.Own) (Some t) = is_some (type_with_equality s x.dn_attributes t)
 is_equality_item s x h t = false
 
--- an extensible item that can be matched is the `or` of its matches, one for each type that it looks at; Undefined, where it can't
-pub record IsMatchOn (s : SchemaModel) (h : How) (t : Option ℕ) (a : List ℕ) (dn : Bool) (b : BoundFilter) : Type 0 where
+-- an extensible item that can be matched is the `or` of its matches, one for each type that it looks at; Undefined,
+-- where it can't
+pub record IsMatchOn (s : SchemaModel) (h : How) (t : Option ℕ) (a : List ℕ) (dn : Bool) (b : BoundFilter) :
+    Type 0 where
   pub matched : is_matched s h t a ≡ true → IsOrOf (λ bs. bs ≡ matches_with s h t a dn) b
   pub unmatched : is_matched s h t a ≡ false → b ≡ bound.Undefined
 
@@ -66,7 +70,8 @@ IsMatchFor s x (Some h) None b = b ≡ bound.Undefined
 IsMatchFor s x (Some h) (Some t) b = IsMatchOn s h t x.match_value x.dn_attributes b
 
 -- an extensible item: the equality item that it is, else its matches
-pub record IsExtensible (s : SchemaModel) (x : ExtensibleValue) (h : Option How) (t : Option (Option ℕ)) (b : BoundFilter) : Type 0 where
+pub record IsExtensible (s : SchemaModel) (x : ExtensibleValue) (h : Option How) (t : Option (Option ℕ))
+    (b : BoundFilter) : Type 0 where
   pub equality : is_equality_item s x h t ≡ true → IsItemFor s (equal x.match_value) (option_flatten t) b
   pub residual : is_equality_item s x h t ≡ false → IsMatchFor s x h t b
 
@@ -78,7 +83,8 @@ IsMadeOfItem s (filter_item.presence d) b = IsItemFor s present (find s d) b
 IsMadeOfItem s (filter_item.extensible x) b = IsExtensible s x (how_of x.matching_rule) (type_of s x.description) b
 
 abbrev mutual
-  -- A bound filter is made of a filter, part by part: an `and`, an `or` and a negation of what their parts make, and items.
+  -- A bound filter is made of a filter, part by part: an `and`, an `or` and a negation of what their parts make, and
+  -- items.
   pub IsMadeOf : SchemaModel → Tree → BoundFilter → Type 0
   IsMadeOf s (conj ts) b = IsAndOf (λ bs. AreMadeOf s ts bs) b
   IsMadeOf s (disj ts) b = IsOrOf (λ bs. AreMadeOf s ts bs) b

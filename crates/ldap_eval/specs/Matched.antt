@@ -16,7 +16,8 @@ use Rattle.ldap_eval.specs.declared.matching.MatchTest.TheVariants as test
 
 -- a test by the kept keys, or by keys made of the values
 abbrev pub match_made : Bool → Rule → Bool → List ℕ → MatchTest
-match_made by_key r less k = cond by_key (test.Kept (record { less = less; key = k })) (test.Text r (record { less = less; key = k }))
+match_made by_key r less k = cond by_key (test.Kept (record { less = less; key = k }))
+    (test.Text r (record { less = less; key = k }))
 
 -- unknown where the assertion has no key
 abbrev pub match_of_key : SchemaModel → How → ℕ → Rule → Option (List ℕ) → MatchTest

@@ -22,10 +22,12 @@ use Rattle.ldap_filter.specs.Tree.{Tree, conj, disj, negation, item, Trees, no_t
 abbrev pub attributes_under : SchemaModel → ℕ → List AttributeModel → List AttributeModel
 attributes_under s t e = filter (λ a. is_under s a.kind t) e
 
--- The item on a type: Undefined, where the type lacks the rule or the assertion is not in its syntax; else the `or` of the
+-- The item on a type: Undefined, where the type lacks the rule or the assertion is not in its syntax; else the `or` of
+-- the
 -- item on each attribute of the type and its subtypes (RFC 4511 4.5.1.7).
 abbrev pub item_on_type : SchemaModel → Item → ℕ → List AttributeModel → Truth
-item_on_type s asked t e = cond (is_answerable s asked t) (disjunction (map (λ a. item_on_attribute s asked a.kind a.values) (attributes_under s t e))) Undefined
+item_on_type s asked t e = cond (is_answerable s asked t)
+    (disjunction (map (λ a. item_on_attribute s asked a.kind a.values) (attributes_under s t e))) Undefined
 
 -- Undefined where the type is unknown (RFC 4511 4.5.1.7)
 abbrev pub item_on : SchemaModel → Item → Option ℕ → List AttributeModel → Truth
@@ -48,7 +50,8 @@ asked_by k a = equal a
 
 -- ---- extensible items (RFC 4511 4.5.1.7.7)
 
--- how an item compares values: by the type's own rule, where it names none; nothing, where what it names is no equality or ordering rule
+-- how an item compares values: by the type's own rule, where it names none; nothing, where what it names is no equality
+-- or ordering rule
 abbrev pub how_of : Option (List ℕ) → Option How
 how_of None = Some how.Own
 how_of (Some word) = option_map how.Named (named_rule word)
@@ -58,7 +61,8 @@ abbrev pub type_of : SchemaModel → Option (List ℕ) → Option (Option ℕ)
 type_of s None = Some None
 type_of s (Some d) = option_map Some (find s d)
 
--- Whether an item can be matched: with a type, the type supports the rule, and the assertion is in its syntax; with a rule alone, some type of the
+-- Whether an item can be matched: with a type, the type supports the rule, and the assertion is in its syntax; with a
+-- rule alone, some type of the
 -- schema supports it that has the assertion in its syntax; with neither, it can not.
 abbrev pub is_matched : SchemaModel → How → Option ℕ → List ℕ → Bool
 is_matched s how.Own None a = false
@@ -66,29 +70,35 @@ is_matched s how.Own (Some t) a = is_of_syntax s t a
 is_matched s (how.Named r) None a = list_any (λ t. is_valid_by s (supported_in (Some t) r.family) a) s.types
 is_matched s (how.Named r) (Some t) a = is_valid_by s (rule_for s (how.Named r) t) a
 
--- whether an item looks at attributes of this type: those of its type and of the subtypes; without a type, those whose type supports the rule
+-- whether an item looks at attributes of this type: those of its type and of the subtypes; without a type, those whose
+-- type supports the rule
 abbrev pub is_looked_at : SchemaModel → How → Option ℕ → ℕ → Bool
 is_looked_at s h None u = is_some (rule_for s h u)
 is_looked_at s h (Some t) u = is_under s u t
 
 -- the `or` of an item over the attributes that it looks at
 abbrev pub match_on_entry : SchemaModel → How → Option ℕ → List ℕ → List AttributeModel → Truth
-match_on_entry s h t a e = disjunction (map (λ x. match_on_values s h a x.kind x.values) (filter (λ x. is_looked_at s h t x.kind) e))
+match_on_entry s h t a e = disjunction (map (λ x. match_on_values s h a x.kind x.values)
+    (filter (λ x. is_looked_at s h t x.kind) e))
 
 -- the same over the pairs of a name, each as one more attribute
 abbrev pub match_on_name : SchemaModel → How → Option ℕ → List ℕ → List RdnModel → Truth
 match_on_name s h t a n = disjunction (map (match_on_pair s h a) (filter (λ p. is_looked_at s h t p.kind) (pairs_of n)))
 
--- Undefined where no type is matched so; else True, False or Undefined by the entry's values, and by its name where dnAttributes asks for that
+-- Undefined where no type is matched so; else True, False or Undefined by the entry's values, and by its name where
+-- dnAttributes asks for that
 abbrev pub match_with : SchemaModel → How → Option ℕ → List ℕ → Bool → List RdnModel → List AttributeModel → Truth
-match_with s h t a dn n e = cond (is_matched s h t a) (truth_or (match_on_entry s h t a e) (cond dn (match_on_name s h t a n) False)) Undefined
+match_with s h t a dn n e = cond (is_matched s h t a) (truth_or (match_on_entry s h t a e)
+    (cond dn (match_on_name s h t a n) False)) Undefined
 
 -- Undefined where the rule or the type is unknown
 abbrev pub match_by : SchemaModel → Option How → ExtensibleValue → List RdnModel → List AttributeModel → Truth
 match_by s None x n e = Undefined
-match_by s (Some h) x n e = option_map_or (λ t. match_with s h t x.match_value x.dn_attributes n e) (type_of s x.description) Undefined
+match_by s (Some h) x n e = option_map_or (λ t. match_with s h t x.match_value x.dn_attributes n e)
+    (type_of s x.description) Undefined
 
--- An extensible item on an entry: Undefined, where it can't be matched; else the `or` of the item on each attribute that it looks at and, if it asks
+-- An extensible item on an entry: Undefined, where it can't be matched; else the `or` of the item on each attribute
+-- that it looks at and, if it asks
 -- for the name too, on each pair of the entry's name (RFC 4511 4.5.1.7.7).
 abbrev pub extensible_value : SchemaModel → ExtensibleValue → List RdnModel → List AttributeModel → Truth
 extensible_value s x n e = match_by s (how_of x.matching_rule) x n e

@@ -4,7 +4,8 @@ use Rattle.std.specs.Str.{IsUtf8}
 use Rattle.ldap_ber.specs.Element.{IsElement}
 use Rattle.ldap_ber.specs.Values.{IsInteger, IsBoolean}
 
--- An element of this first octet and content at the front, and the octets after it. An OCTET STRING is its content (X.690 8.7).
+-- An element of this first octet and content at the front, and the octets after it. An OCTET STRING is its content
+-- (X.690 8.7).
 pub record HasField (octets : List ℕ) (first : ℕ) (content rest : List ℕ) : Type 0 where
   pub spelling : List ℕ
   pub is_element : IsElement spelling first content
@@ -16,7 +17,8 @@ pub record Seq (First : List ℕ → Type 0) (Next : List ℕ → Type 0) : Type
   pub first : First rest
   pub next : Next rest
 
--- An element of this first octet whose content is what In says, and the octets after it: a SEQUENCE, a SET, a tagged type.
+-- An element of this first octet whose content is what In says, and the octets after it: a SEQUENCE, a SET, a tagged
+-- type.
 pub record HasPart (In : List ℕ → Type 0) (octets : List ℕ) (first : ℕ) (rest : List ℕ) : Type 0 where
   pub content : List ℕ
   pub field : HasField octets first content rest
@@ -66,4 +68,5 @@ HasOctetsOrNone octets first o rest = Optional (λ v octets rest. HasField octet
 
 -- A BOOLEAN DEFAULT FALSE (X.680 25.11): where it is left out it is false.
 abbrev pub HasFlagOrFalse : List ℕ → ℕ → Bool → List ℕ → Type 0
-HasFlagOrFalse octets first b rest = HasFlag octets first b rest ⊎ ((b ≡ false) × (octets ≡ rest) × BeginsOtherwise octets first)
+HasFlagOrFalse octets first b rest = HasFlag octets first b rest ⊎ ((b ≡ false) × (octets ≡ rest)
+    × BeginsOtherwise octets first)

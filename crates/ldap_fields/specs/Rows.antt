@@ -17,12 +17,14 @@ AreValues vs content = AreRow (λ v octets rest. HasField octets 4 v rest) vs co
 
 -- An OPTIONAL SEQUENCE OF: none and an empty one are one.
 abbrev pub HasRowOrNone : {V : Type 0} → (V → List ℕ → List ℕ → Type 0) → List ℕ → ℕ → List V → List ℕ → Type 0
-HasRowOrNone P octets first vs rest = HasPart (AreRow P vs) octets first rest ⊎ ((vs ≡ []) × (octets ≡ rest) × BeginsOtherwise octets first)
+HasRowOrNone P octets first vs rest = HasPart (AreRow P vs) octets first rest ⊎ ((vs ≡ []) × (octets ≡ rest)
+    × BeginsOtherwise octets first)
 
 -- Whole elements of any kind, which end a SEQUENCE and are ignored (RFC 4511 4, the extensibility that "..." implies).
 pub data AreElements : List ℕ → Type 0 where
   none : AreElements []
-  more : {octets : List ℕ} → (first : ℕ) (content rest : List ℕ) → HasField octets first content rest → AreElements rest → AreElements octets
+  more : {octets : List ℕ} → (first : ℕ) (content rest : List ℕ) → HasField octets first content rest →
+      AreElements rest → AreElements octets
 
 -- The spellings of a row's values, one after the other.
 abbrev pub row_bytes : {V : Type 0} → (V → List ℕ) → List V → List ℕ

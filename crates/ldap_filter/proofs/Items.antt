@@ -13,7 +13,8 @@ same_assertion d a e b content p q =
     let s = step text_part (text_unique 4) _ d e content p.rest p.first q in
     (s.value, (octets_unique 4 a b p.rest [] [] p.next s.next).value)
 
-pub any_unique : (vs ws : List (List ℕ)) (o x y : List ℕ) → AreAnyParts vs o x → AreAnyParts ws o y → Same (List (List ℕ)) vs ws x y
+pub any_unique : (vs ws : List (List ℕ)) (o x y : List ℕ) → AreAnyParts vs o x → AreAnyParts ws o y →
+    Same (List (List ℕ)) vs ws x y
 any_unique [] [] o x y p q = record { value = refl; rest = sym p.0 ∙ q.0 }
 any_unique [] (w ∷ ws) o x y p q = absurd (field_front o w q.rest 129 q.first p.1)
 any_unique (v ∷ vs) [] o x y p q = absurd (field_front o v p.rest 129 p.first q.1)
@@ -30,8 +31,10 @@ same_substrings s t content p q =
     let d = step text_part (text_unique 4) _ s.description t.description content p.rest p.first q in
     let f = same_field p.rest p.next.content d.next.content [] [] 48 48 p.next.field d.next.field in
     let h = subst (AreParts t) (sym f.content) d.next.inside in
-    let i = step (octets_or_none_part 128) (octets_or_none_unique 128) _ s.initial t.initial p.next.content p.next.inside.1.rest p.next.inside.1.first h.1 in
-    let a = step AreAnyParts any_unique _ s.any t.any p.next.inside.1.rest p.next.inside.1.next.rest p.next.inside.1.next.first i.next in
+    let i = step (octets_or_none_part 128) (octets_or_none_unique 128) _ s.initial t.initial p.next.content
+    p.next.inside.1.rest p.next.inside.1.first h.1 in
+    let a = step AreAnyParts any_unique _ s.any t.any p.next.inside.1.rest p.next.inside.1.next.rest
+    p.next.inside.1.next.first i.next in
     let l = octets_or_none_unique 130 s.last t.last p.next.inside.1.next.rest [] [] p.next.inside.1.next.next a.next in
     ap₂ (λ (x : List ℕ) (y : Option (List ℕ)). with_parts x y s.any s.last) d.value i.value
     ∙ ap₂ (λ (x : List (List ℕ)) (y : Option (List ℕ)). with_parts t.description t.initial x y) a.value l.value
@@ -41,9 +44,12 @@ with_fields r d v b = record { matching_rule = r; description = d; match_value =
 
 same_extensible : (e f : ExtensibleValue) (content : List ℕ) → IsExtensible e content → IsExtensible f content → e ≡ f
 same_extensible e f content p q =
-    let r = step (text_or_none_part 129) (text_or_none_unique 129) _ e.matching_rule f.matching_rule content p.rest p.first q in
-    let d = step (text_or_none_part 130) (text_or_none_unique 130) _ e.description f.description p.rest p.next.rest p.next.first r.next in
-    let v = step (octets_part 131) (octets_unique 131) _ e.match_value f.match_value p.next.rest p.next.next.rest p.next.next.first d.next in
+    let r = step (text_or_none_part 129) (text_or_none_unique 129) _ e.matching_rule f.matching_rule content p.rest
+    p.first q in
+    let d = step (text_or_none_part 130) (text_or_none_unique 130) _ e.description f.description p.rest p.next.rest
+    p.next.first r.next in
+    let v = step (octets_part 131) (octets_unique 131) _ e.match_value f.match_value p.next.rest p.next.next.rest
+    p.next.next.first d.next in
     let b = flag_or_false_unique 132 e.dn_attributes f.dn_attributes p.next.next.rest [] [] p.next.next.next v.next in
     ap₂ (λ (x y : Option (List ℕ)). with_fields x y e.match_value e.dn_attributes) r.value d.value
     ∙ ap₂ (λ (x : List ℕ) (y : Bool). with_fields f.matching_rule f.description x y) v.value b.value
@@ -56,10 +62,30 @@ pub record Apart (n : ℕ) : Type 0 where
   pub extensible : n ≡ 169 → ⊥
 
 pub apart : (k : Comparison) → Apart (comparison_octet k)
-apart equal = record { substrings = λ e. omega (arith, e); presence = λ e. omega (arith, e); extensible = λ e. omega (arith, e) }
-apart at_least = record { substrings = λ e. omega (arith, e); presence = λ e. omega (arith, e); extensible = λ e. omega (arith, e) }
-apart at_most = record { substrings = λ e. omega (arith, e); presence = λ e. omega (arith, e); extensible = λ e. omega (arith, e) }
-apart approximate = record { substrings = λ e. omega (arith, e); presence = λ e. omega (arith, e); extensible = λ e. omega (arith, e) }
+apart equal = record {
+  substrings = λ e. omega (arith, e);
+  presence = λ e. omega (arith, e);
+  extensible = λ e.
+      omega (arith, e);
+}
+apart at_least = record {
+  substrings = λ e. omega (arith, e);
+  presence = λ e. omega (arith, e);
+  extensible = λ e.
+      omega (arith, e);
+}
+apart at_most = record {
+  substrings = λ e. omega (arith, e);
+  presence = λ e. omega (arith, e);
+  extensible = λ e.
+      omega (arith, e);
+}
+apart approximate = record {
+  substrings = λ e. omega (arith, e);
+  presence = λ e. omega (arith, e);
+  extensible = λ e.
+      omega (arith, e);
+}
 
 same_comparison : (k l : Comparison) → comparison_octet k ≡ comparison_octet l → k ≡ l
 same_comparison equal equal e = refl
@@ -79,10 +105,12 @@ same_comparison approximate equal e = absurd (omega arith)
 same_comparison approximate at_least e = absurd (omega arith)
 same_comparison approximate at_most e = absurd (omega arith)
 
-pub item_unique : (i j : Item) (content : List ℕ) → item_octet i ≡ item_octet j → IsItem i content → IsItem j content → i ≡ j
+pub item_unique : (i j : Item) (content : List ℕ) → item_octet i ≡ item_octet j → IsItem i content →
+    IsItem j content → i ≡ j
 item_unique (comparison k d a) (comparison l e b) content same p q =
     let s = same_assertion d a e b content p q in
-    ap (λ (x : Comparison). comparison x d a) (same_comparison k l same) ∙ ap₂ (λ (x y : List ℕ). comparison l x y) s.0 s.1
+    ap (λ (x : Comparison). comparison x d a) (same_comparison k l same) ∙ ap₂ (λ (x y : List ℕ). comparison l x y)
+    s.0 s.1
 item_unique (substrings s) (substrings t) content same p q = ap substrings (same_substrings s t content p q)
 item_unique (presence d) (presence e) content same p q = ap presence (sym p.0 ∙ q.0)
 item_unique (extensible e) (extensible f) content same p q = ap extensible (same_extensible e f content p q)
@@ -118,13 +146,48 @@ pub record NoRow (n : ℕ) : Type 0 where
   pub negation : n ≡ 162 → ⊥
 
 comparison_is_no_row : (k : Comparison) → NoRow (comparison_octet k)
-comparison_is_no_row equal = record { conj = λ e. omega (arith, e); disj = λ e. omega (arith, e); negation = λ e. omega (arith, e) }
-comparison_is_no_row at_least = record { conj = λ e. omega (arith, e); disj = λ e. omega (arith, e); negation = λ e. omega (arith, e) }
-comparison_is_no_row at_most = record { conj = λ e. omega (arith, e); disj = λ e. omega (arith, e); negation = λ e. omega (arith, e) }
-comparison_is_no_row approximate = record { conj = λ e. omega (arith, e); disj = λ e. omega (arith, e); negation = λ e. omega (arith, e) }
+comparison_is_no_row equal = record {
+  conj = λ e. omega (arith, e);
+  disj = λ e. omega (arith, e);
+  negation = λ e.
+      omega (arith, e);
+}
+comparison_is_no_row at_least = record {
+  conj = λ e. omega (arith, e);
+  disj = λ e. omega (arith, e);
+  negation = λ e.
+      omega (arith, e);
+}
+comparison_is_no_row at_most = record {
+  conj = λ e. omega (arith, e);
+  disj = λ e. omega (arith, e);
+  negation = λ e.
+      omega (arith, e);
+}
+comparison_is_no_row approximate = record {
+  conj = λ e. omega (arith, e);
+  disj = λ e. omega (arith, e);
+  negation =
+      λ e. omega (arith, e);
+}
 
 pub is_no_row : (i : Item) → NoRow (item_octet i)
 is_no_row (comparison k d a) = comparison_is_no_row k
-is_no_row (substrings s) = record { conj = λ e. omega (arith, e); disj = λ e. omega (arith, e); negation = λ e. omega (arith, e) }
-is_no_row (presence d) = record { conj = λ e. omega (arith, e); disj = λ e. omega (arith, e); negation = λ e. omega (arith, e) }
-is_no_row (extensible x) = record { conj = λ e. omega (arith, e); disj = λ e. omega (arith, e); negation = λ e. omega (arith, e) }
+is_no_row (substrings s) = record {
+  conj = λ e. omega (arith, e);
+  disj = λ e. omega (arith, e);
+  negation = λ e.
+      omega (arith, e);
+}
+is_no_row (presence d) = record {
+  conj = λ e. omega (arith, e);
+  disj = λ e. omega (arith, e);
+  negation = λ e.
+      omega (arith, e);
+}
+is_no_row (extensible x) = record {
+  conj = λ e. omega (arith, e);
+  disj = λ e. omega (arith, e);
+  negation = λ e.
+      omega (arith, e);
+}

@@ -22,20 +22,36 @@ mutual
   body_written (disj ts) h small = rows_written ts h small
   body_written (negation t) h small =
       let less = inner (octet_of t) (filter_content t) small in
-      record { content = filter_content t; is_element = element_written (octet_of t) (filter_content t) (low t) less; inside = body_written t h less }
+      record {
+        content = filter_content t;
+        is_element = element_written (octet_of t) (filter_content t) (low t) less;
+        inside = body_written t h less;
+      }
   body_written (item i) h small = item_written i h small
 
-  pub rows_written : (ts : Trees) → HaveTexts ts → length (filters_bytes ts) < 4294967296 → AreFilters ts (filters_bytes ts)
+  pub rows_written : (ts : Trees) → HaveTexts ts → length (filters_bytes ts) < 4294967296 →
+      AreFilters ts (filters_bytes ts)
   rows_written no_trees h small = refl
   rows_written (tree t ts) h small =
-      let less = inner (octet_of t) (filter_content t) (omega (arith, length-append (filter_bytes t) (filters_bytes ts))) in
+      let less = inner (octet_of t) (filter_content t)
+      (omega (arith, length-append (filter_bytes t) (filters_bytes ts))) in
       record {
         first = filter_bytes t;
         rest = filters_bytes ts;
         parts = refl;
-        is_first = record { content = filter_content t; is_element = element_written (octet_of t) (filter_content t) (low t) less; inside = body_written t h.0 less };
+        is_first = record {
+          content = filter_content t;
+          is_element = element_written (octet_of t) (filter_content t)
+              (low t) less;
+          inside = body_written t h.0 less;
+        };
         is_rest = rows_written ts h.1 (omega (arith, length-append (filter_bytes t) (filters_bytes ts)));
       }
 
 pub written : (t : Tree) → HasTexts t → length (filter_content t) < 4294967296 → IsFilter t (filter_bytes t)
-written t h small = record { content = filter_content t; is_element = element_written (octet_of t) (filter_content t) (low t) small; inside = body_written t h small }
+written t h small = record {
+  content = filter_content t;
+  is_element = element_written (octet_of t) (filter_content t)
+      (low t) small;
+  inside = body_written t h small;
+}

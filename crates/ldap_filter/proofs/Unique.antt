@@ -10,14 +10,17 @@ use Rattle.ldap_filter.specs.Limits.{Opens, here, under, along}
 use Rattle.ldap_filter.proofs.Items.{item_unique, is_no_row}
 
 same_whole : (octets c d : List ℕ) (f g : ℕ) → IsElement octets f c → IsElement octets g d → (f ≡ g) × (c ≡ d)
-same_whole octets c d f g is₁ is₂ = let same = same_spelled octets octets [] [] c d f g is₁ is₂ refl in (same.first, same.content)
+same_whole octets c d f g is₁ is₂ = let same = same_spelled octets octets [] [] c d f g is₁ is₂ refl
+    in (same.first, same.content)
 
 -- the field that a filter is
-pub filter_field : (t : Tree) (octets s rest : List ℕ) (is : IsFilter t s) → octets ≡ s ++ rest → HasField octets (octet_of t) is.content rest
+pub filter_field : (t : Tree) (octets s rest : List ℕ) (is : IsFilter t s) → octets ≡ s ++ rest →
+    HasField octets (octet_of t) is.content rest
 filter_field t octets s rest is e = record { spelling = s; is_element = is.is_element; parts = e }
 
 not_empty : (t : Tree) (ts : Trees) (c : List ℕ) → AreFilters (tree t ts) c → c ≡ [] → ⊥
-not_empty t ts c q e = not_nothing q.first q.rest q.is_first.content (octet_of t) q.is_first.is_element (sym q.parts ∙ e)
+not_empty t ts c q e = not_nothing q.first q.rest q.is_first.content (octet_of t) q.is_first.is_element (sym q.parts
+    ∙ e)
 
 nothing : (a b : List ℕ) → a ++ b ≡ [] → a ≡ []
 nothing [] b e = refl
@@ -49,8 +52,10 @@ mutual
   row_unique no_trees (tree u us) c p q = absurd (not_empty u us c q p)
   row_unique (tree t ts) no_trees c p q = absurd (not_empty t ts c p q)
   row_unique (tree t ts) (tree u us) c p q =
-      let same = same_spelled p.first q.first p.rest q.rest p.is_first.content q.is_first.content (octet_of t) (octet_of u) p.is_first.is_element q.is_first.is_element (sym p.parts ∙ q.parts) in
-      let head : t ≡ u = body_unique t u q.is_first.content same.first (subst (IsBody t) same.content p.is_first.inside) q.is_first.inside in
+      let same = same_spelled p.first q.first p.rest q.rest p.is_first.content q.is_first.content (octet_of t)
+      (octet_of u) p.is_first.is_element q.is_first.is_element (sym p.parts ∙ q.parts) in
+      let head : t ≡ u = body_unique t u q.is_first.content same.first (subst (IsBody t) same.content
+      p.is_first.inside) q.is_first.inside in
       let tail : ts ≡ us = row_unique ts us q.rest (subst (AreFilters ts) same.rest p.is_rest) q.is_rest in
       cc
 
@@ -69,25 +74,35 @@ pub record Behind (before ts : Trees) (rest : List ℕ) : Type 0 where
   pub deep : depths others ≤ depths ts
   pub many : counts before + counts others ≡ counts ts
 
-pub behind : (before ts : Trees) (done rest content : List ℕ) → AreFilters before done → AreFilters ts content → content ≡ done ++ rest → Behind before ts rest
+pub behind : (before ts : Trees) (done rest content : List ℕ) → AreFilters before done → AreFilters ts content →
+    content ≡ done ++ rest → Behind before ts rest
 behind no_trees ts done rest content p q e =
     let same : content ≡ rest = e ∙ ap (λ (s : List ℕ). s ++ rest) p in
     record { others = ts; are_filters = subst (AreFilters ts) same q; deep = omega arith; many = omega arith }
 behind (tree t before) no_trees done rest content p q e =
     absurd (not_empty t before done p (nothing done rest (sym e ∙ q)))
 behind (tree t before) (tree u ts) done rest content p q e =
-    let e' : p.first ++ (p.rest ++ rest) ≡ q.first ++ q.rest = sym (append_assoc p.first p.rest rest) ∙ ap (λ (s : List ℕ). s ++ rest) (sym p.parts) ∙ sym e ∙ q.parts in
+    let e' : p.first ++ (p.rest ++ rest) ≡ q.first ++ q.rest = sym (append_assoc p.first p.rest rest)
+    ∙ ap (λ (s : List ℕ). s ++ rest) (sym p.parts) ∙ sym e ∙ q.parts in
     let same = front_unique t u p.first q.first (p.rest ++ rest) q.rest p.is_first q.is_first e' in
     let b = behind before ts p.rest rest q.rest p.is_rest q.is_rest (sym same.1) in
     let one : count t ≡ count u = ap count same.0 in
-    record { others = b.others; are_filters = b.are_filters; deep = omega (arith, b.deep); many = omega (arith, b.many, one) }
+    record {
+      others = b.others;
+      are_filters = b.are_filters;
+      deep = omega (arith, b.deep);
+      many =
+          omega (arith, b.many, one);
+    }
 
 -- ---- what stands open is deep and counted
 
 opens_some : {d k : ℕ} (octets : List ℕ) → Opens d k octets → octets ≡ [] → ⊥
-opens_some octets (here first content rest f is) e = let z = sym f.parts ∙ e in not_nothing f.spelling rest content first f.is_element z
+opens_some octets (here first content rest f is) e = let z = sym f.parts ∙ e in not_nothing f.spelling rest content
+    first f.is_element z
 opens_some octets (under content rest f o) e = not_nothing f.spelling rest content 162 f.is_element (sym f.parts ∙ e)
-opens_some octets (along first content rest done after before f is parts are items o) e = not_nothing f.spelling rest content first f.is_element (sym f.parts ∙ e)
+opens_some octets (along first content rest done after before f is parts are items o) e = not_nothing f.spelling rest
+    content first f.is_element (sym f.parts ∙ e)
 
 positive : (t : Tree) → (0 < depth t) × (0 < count t)
 positive (conj ts) = (omega arith, omega arith)
@@ -112,18 +127,23 @@ pub record IsRow (t : Tree) (content : List ℕ) : Type 0 where
   pub deep : depth t ≡ suc (depths trees)
   pub many : count t ≡ suc (counts trees)
 
-pub row_of : (t : Tree) (content : List ℕ) (first : ℕ) → octet_of t ≡ first → (first ≡ 160) ⊎ (first ≡ 161) → IsBody t content → IsRow t content
+pub row_of : (t : Tree) (content : List ℕ) (first : ℕ) → octet_of t ≡ first → (first ≡ 160) ⊎ (first ≡ 161) →
+    IsBody t content → IsRow t content
 row_of (conj ts) content first e is h = record { trees = ts; are_filters = h; deep = refl; many = refl }
 row_of (disj ts) content first e is h = record { trees = ts; are_filters = h; deep = refl; many = refl }
 row_of (negation t) content first e is h = absurd (elim is [ inl p ↦ omega arith | inr p ↦ omega arith ])
-row_of (item i) content first e is h = absurd (elim is [ inl p ↦ (is_no_row i).conj (e ∙ p) | inr p ↦ (is_no_row i).disj (e ∙ p) ])
+row_of (item i) content first e is h =
+    absurd (elim is [ inl p ↦ (is_no_row i).conj (e ∙ p) | inr p ↦ (is_no_row i).disj (e ∙ p) ])
 
 in_row : {d k : ℕ} (us : Trees) (after : List ℕ) → AreFilters us after → (after ≡ [] → ⊥)
-    → ((t : Tree) (s rest : List ℕ) → IsFilter t s → after ≡ s ++ rest → (d < depth t) × (k < count t)) → (d < depths us) × (k < counts us)
+    → ((t : Tree) (s rest : List ℕ) → IsFilter t s → after ≡ s ++ rest → (d < depth t) × (k < count t)) →
+    (d < depths us) × (k < counts us)
 in_row no_trees after are some each = absurd (some are)
-in_row (tree u us) after are some each = let one = each u are.first are.rest are.is_first are.parts in (omega (arith, one.0), omega (arith, one.1))
+in_row (tree u us) after are some each = let one = each u are.first are.rest are.is_first are.parts
+    in (omega (arith, one.0), omega (arith, one.1))
 
-pub opens_within : {d k : ℕ} (octets : List ℕ) → Opens d k octets → (t : Tree) (s rest : List ℕ) → IsFilter t s → octets ≡ s ++ rest → (d < depth t) × (k < count t)
+pub opens_within : {d k : ℕ} (octets : List ℕ) → Opens d k octets → (t : Tree) (s rest : List ℕ) → IsFilter t s →
+    octets ≡ s ++ rest → (d < depth t) × (k < count t)
 opens_within octets (here first content rest f is) t s r p e = positive t
 opens_within octets (under content rest f o) t s r p e =
     let same = same_field octets p.content content r rest (octet_of t) 162 (filter_field t octets s r p e) f in

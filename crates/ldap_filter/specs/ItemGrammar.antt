@@ -30,16 +30,19 @@ abbrev pub AreAnyParts : List (List ℕ) → List ℕ → List ℕ → Type 0
 AreAnyParts [] octets rest = (octets ≡ rest) × BeginsOtherwise octets 129
 AreAnyParts (v ∷ vs) octets rest = Seq (HasField octets 129 v) (λ octets. AreAnyParts vs octets rest)
 
--- substrings SEQUENCE SIZE (1..MAX) OF CHOICE { initial [0], any [1], final [2] }: initial at most once and first, final at
+-- substrings SEQUENCE SIZE (1..MAX) OF CHOICE { initial [0], any [1], final [2] }: initial at most once and first,
+-- final at
 -- most once and last, and some part at least (RFC 4511 4.5.1.7.2)
 abbrev pub AreParts : SubstringsValue → List ℕ → Type 0
-AreParts s parts = (parts ≢ []) × Seq (HasOctetsOrNone parts 128 s.initial) (λ octets. Seq (AreAnyParts s.any octets) (λ octets. HasOctetsOrNone octets 130 s.last []))
+AreParts s parts = (parts ≢ []) × Seq (HasOctetsOrNone parts 128 s.initial) (λ octets. Seq (AreAnyParts s.any octets)
+    (λ octets. HasOctetsOrNone octets 130 s.last []))
 
 -- SubstringFilter (RFC 4511 4.5.1): a description, and the parts.
 abbrev pub IsSubstrings : SubstringsValue → List ℕ → Type 0
 IsSubstrings s content = Seq (HasText content 4 s.description) (λ octets. HasPart (AreParts s) octets 48 [])
 
--- MatchingRuleAssertion (RFC 4511 4.5.1): matchingRule [1] OPTIONAL, type [2] OPTIONAL, matchValue [3], dnAttributes [4] DEFAULT FALSE.
+-- MatchingRuleAssertion (RFC 4511 4.5.1): matchingRule [1] OPTIONAL, type [2] OPTIONAL, matchValue [3], dnAttributes
+-- [4] DEFAULT FALSE.
 abbrev pub IsExtensible : ExtensibleValue → List ℕ → Type 0
 IsExtensible e content =
     Seq (HasTextOrNone content 129 e.matching_rule) (λ octets. Seq (HasTextOrNone octets 130 e.description)
@@ -68,7 +71,8 @@ substrings_content s = element_bytes 4 s.description ++ element_bytes 48 (parts_
 
 -- the content of a MatchingRuleAssertion
 abbrev pub extensible_content : ExtensibleValue → List ℕ
-extensible_content e = optional_bytes 129 e.matching_rule ++ optional_bytes 130 e.description ++ element_bytes 131 e.match_value ++ flag_or_false_bytes 132 e.dn_attributes
+extensible_content e = optional_bytes 129 e.matching_rule ++ optional_bytes 130 e.description ++ element_bytes 131
+    e.match_value ++ flag_or_false_bytes 132 e.dn_attributes
 
 -- the content of the element that is written for an item
 abbrev pub item_content : Item → List ℕ

@@ -7,8 +7,19 @@ use Rattle.ldap_filter.specs.declared.item.MatchingRuleAssertion.{MatchingRuleAs
 
 -- a SubstringFilter as clauses see it
 abbrev pub substrings_view : SubstringFilter → SubstringsValue
-substrings_view s = record { description = string_bytes s.description; initial = option_map (λ v. v.items) s.initial; any = map (λ v. v.items) s.any.items; last = option_map (λ v. v.items) s.last }
+substrings_view s = record {
+  description = string_bytes s.description;
+  initial = option_map (λ v. v.items) s.initial;
+  any = map (λ v. v.items) s.any.items;
+  last = option_map (λ v. v.items) s.last;
+}
 
 -- a MatchingRuleAssertion as clauses see it
 abbrev pub extensible_view : MatchingRuleAssertion → ExtensibleValue
-extensible_view a = record { matching_rule = option_map string_bytes a.matching_rule; description = option_map string_bytes a.description; match_value = a.match_value.items; dn_attributes = a.dn_attributes }
+extensible_view a = record {
+  matching_rule = option_map string_bytes a.matching_rule;
+  description =
+      option_map string_bytes a.description;
+  match_value = a.match_value.items;
+  dn_attributes = a.dn_attributes;
+}

@@ -18,7 +18,8 @@ use Rattle.ldap_framer.specs.Stream.{IsFrame, IsWhole, IsAwaited, BeginsNoFrame,
 
 -- ---- how a stream goes on
 
-pub goes_on : (stream piece rest : List ℕ) (ms ns : List MessageValue) (ending : Ending) → Reads stream ms (awaits rest) → Reads (rest ++ piece) ns ending → Reads (stream ++ piece) (ms ++ ns) ending
+pub goes_on : (stream piece rest : List ℕ) (ms ns : List MessageValue) (ending : Ending) →
+    Reads stream ms (awaits rest) → Reads (rest ++ piece) ns ending → Reads (stream ++ piece) (ms ++ ns) ending
 goes_on stream piece rest [] ns ending p q = subst (λ (o : List ℕ). Reads (o ++ piece) ns ending) (sym p.0) q
 goes_on stream piece rest (m ∷ ms) ns ending p q = record {
   frame = p.frame;
@@ -42,7 +43,8 @@ of_frame : (o h rest : List ℕ) (f n : ℕ) → BeginsFrame o → IsHeader h f 
 of_frame o h rest f n begins is e = subst (λ (k : ℕ). IsHeader h k n) (first_is o h rest f n begins is e) is
 
 -- the content behind a header makes a whole element with it
-pub framed_by : (h content : List ℕ) (n : ℕ) → IsHeader h 48 n → length content ≡ n → IsElement (h ++ content) 48 content
+pub framed_by : (h content : List ℕ) (n : ℕ) → IsHeader h 48 n → length content ≡ n → IsElement (h ++ content) 48
+    content
 framed_by h content n is e = record {
   low_tag = is.low_tag;
   len_octets = is.len_octets;
@@ -50,14 +52,19 @@ framed_by h content n is e = record {
   whole = ap (λ (s : List ℕ). s ++ content) is.whole;
 }
 
-pub framed : (o h rest : List ℕ) (f n : ℕ) → BeginsFrame o → IsHeader h f n → o ≡ h ++ rest → length h + n ≤ length o → IsFrame (take (length h + n) o)
+pub framed : (o h rest : List ℕ) (f n : ℕ) → BeginsFrame o → IsHeader h f n → o ≡ h ++ rest →
+    length h + n ≤ length o → IsFrame (take (length h + n) o)
 framed o h rest f n begins is e long =
     let enough : n ≤ length rest = omega (arith, ap length e, length-append h rest) in
     let content = take n rest in
-    let same : take (length h + n) o ≡ h ++ content = ap (take (length h + n)) e ∙ take-append-add h rest n in
-    (content, subst (λ (s : List ℕ). IsElement s 48 content) (sym same) (framed_by h content n (of_frame o h rest f n begins is e) (length-take-le n rest enough)))
+    let same : take (length h + n) o ≡ h ++ content = ap (take (length h + n)) e ∙ take-append-add h rest n in (
+      content,
+      subst (λ (s : List ℕ). IsElement s 48 content) (sym same) (framed_by h content n
+          (of_frame o h rest f n begins is e) (length-take-le n rest enough)),
+    )
 
-pub bad_frame : (f : MsgFault) (o : List ℕ) (size : ℕ) → size ≤ length o → size ≤ 4194304 → IsFrame (take size o) → IsFault f (take size o) → HasBadFrame f o
+pub bad_frame : (f : MsgFault) (o : List ℕ) (size : ℕ) → size ≤ length o → size ≤ 4194304 → IsFrame (take size o) →
+    IsFault f (take size o) → HasBadFrame f o
 bad_frame f o size within small is fault = record {
   frame = take size o;
   rest = drop size o;
@@ -80,15 +87,18 @@ no_frame LengthTooLong [] other h more frame after is e = h
 no_frame Indefinite (a ∷ []) other h more frame after is e = h
 no_frame LengthTooLong (a ∷ []) other h more frame after is e = h
 no_frame HighTag (a ∷ bs) other h more frame after is e =
-    let z : a ∷ (bs ++ more) ≡ 48 ∷ ((is.1.len_octets ++ is.0) ++ after) = e ∙ ap (λ (x : List ℕ). x ++ after) is.1.whole in
+    let z : a ∷ (bs ++ more) ≡ 48 ∷ ((is.1.len_octets ++ is.0) ++ after) = e ∙ ap (λ (x : List ℕ). x ++ after)
+    is.1.whole in
     let same : a ≡ 48 = cc in
     let tag : 48 % 32 ≡ 31 = ap (λ (k : ℕ). k % 32) (sym same) ∙ h in
     omega arith
 no_frame Indefinite (a ∷ b ∷ bs) other h more frame after is e =
-    let z : a ∷ b ∷ (bs ++ more) ≡ 48 ∷ (is.1.len_octets ++ (is.0 ++ after)) = e ∙ ap (λ (x : List ℕ). x ++ after) is.1.whole ∙ ap (λ (x : List ℕ). 48 ∷ x) (append_assoc is.1.len_octets is.0 after) in
+    let z : a ∷ b ∷ (bs ++ more) ≡ 48 ∷ (is.1.len_octets ++ (is.0 ++ after)) = e ∙ ap (λ (x : List ℕ). x ++ after)
+    is.1.whole ∙ ap (λ (x : List ℕ). 48 ∷ x) (append_assoc is.1.len_octets is.0 after) in
     second b (bs ++ more) is.1.len_octets (is.0 ++ after) (length is.0) is.1.len (cc) (inl h.1)
 no_frame LengthTooLong (a ∷ b ∷ bs) other h more frame after is e =
-    let z : a ∷ b ∷ (bs ++ more) ≡ 48 ∷ (is.1.len_octets ++ (is.0 ++ after)) = e ∙ ap (λ (x : List ℕ). x ++ after) is.1.whole ∙ ap (λ (x : List ℕ). 48 ∷ x) (append_assoc is.1.len_octets is.0 after) in
+    let z : a ∷ b ∷ (bs ++ more) ≡ 48 ∷ (is.1.len_octets ++ (is.0 ++ after)) = e ∙ ap (λ (x : List ℕ). x ++ after)
+    is.1.whole ∙ ap (λ (x : List ℕ). 48 ∷ x) (append_assoc is.1.len_octets is.0 after) in
     second b (bs ++ more) is.1.len_octets (is.0 ++ after) (length is.0) is.1.len (cc) (inr h.1)
 
 -- ---- the messages so far
@@ -96,30 +106,51 @@ no_frame LengthTooLong (a ∷ b ∷ bs) other h more frame after is e =
 pub record SoFar (stream : List ℕ) (done : List MessageValue) (rest : List ℕ) : Type 0 where
   pub front : List ℕ
   pub whole : stream ≡ front ++ rest
-  pub forth : (others : List MessageValue) (ending : Ending) → Reads rest others ending → Reads stream (done ++ others) ending
+  pub forth : (others : List MessageValue) (ending : Ending) → Reads rest others ending →
+      Reads stream (done ++ others) ending
 
 pub begins : (stream : List ℕ) → SoFar stream [] stream
 begins stream = record { front = []; whole = refl; forth = λ others ending h. h }
 
-more_done : (stream rest : List ℕ) (done : List MessageValue) (m : MessageValue) (size : ℕ) → SoFar stream done rest → IsWhole (take size rest) m → SoFar stream (done ++ m ∷ []) (drop size rest)
+more_done : (stream rest : List ℕ) (done : List MessageValue) (m : MessageValue) (size : ℕ) → SoFar stream done rest →
+    IsWhole (take size rest) m → SoFar stream (done ++ m ∷ []) (drop size rest)
 more_done stream rest done m size so_far is = record {
   front = so_far.front ++ take size rest;
-  whole = so_far.whole ∙ ap (λ (s : List ℕ). so_far.front ++ s) (sym (take-append-drop size rest)) ∙ sym (append_assoc so_far.front (take size rest) (drop size rest));
-  forth = λ others ending h. subst (λ (ms : List MessageValue). Reads stream ms ending) (sym (append_assoc done (m ∷ []) others))
-      (so_far.forth (m ∷ others) ending (record { frame = take size rest; rest = drop size rest; whole = sym (take-append-drop size rest); is_whole = is; next = h }));
+  whole = so_far.whole ∙ ap (λ (s : List ℕ). so_far.front ++ s) (sym (take-append-drop size rest))
+      ∙ sym (append_assoc so_far.front (take size rest) (drop size rest));
+  forth = λ others ending h. subst (λ (ms : List MessageValue). Reads stream ms ending)
+      (sym (append_assoc done (m ∷ []) others))
+      (so_far.forth (m ∷ others) ending (record {
+        frame = take size rest;
+        rest = drop size rest;
+        whole =
+            sym (take-append-drop size rest);
+        is_whole = is;
+        next = h;
+      }));
 }
 
-pub one_more : (stream rest after : List ℕ) (old new : List Message) (m : Message) (size : ℕ) → SoFar stream (map view old) rest → new ≡ old ++ m ∷ [] → IsWhole (take size rest) (view m) → after ≡ drop size rest → SoFar stream (map view new) after
+pub one_more : (stream rest after : List ℕ) (old new : List Message) (m : Message) (size : ℕ) →
+    SoFar stream (map view old) rest → new ≡ old ++ m ∷ [] → IsWhole (take size rest) (view m) →
+    after ≡ drop size rest → SoFar stream (map view new) after
 one_more stream rest after old new m size so_far pushed is e =
     let done : map view new ≡ map view old ++ view m ∷ [] = ap (map view) pushed ∙ map_push view old m in
-    subst (λ (x : List ℕ). SoFar stream (map view new) x) (sym e) (subst (λ (ms : List MessageValue). SoFar stream ms (drop size rest)) (sym done) (more_done stream rest (map view old) (view m) size so_far is))
+    subst (λ (x : List ℕ). SoFar stream (map view new) x) (sym e)
+    (subst (λ (ms : List MessageValue). SoFar stream ms (drop size rest)) (sym done)
+    (more_done stream rest (map view old) (view m) size so_far is))
 
 -- what is left is behind what was taken
-left_is : (stream rest : List ℕ) (done : List MessageValue) → SoFar stream done rest → drop (length stream - length rest) stream ≡ rest
-left_is stream rest done so_far = ap (drop (length stream - length rest)) so_far.whole ∙ drop_at so_far.front rest _ (omega (arith, ap length so_far.whole, length-append so_far.front rest))
+left_is : (stream rest : List ℕ) (done : List MessageValue) → SoFar stream done rest →
+    drop (length stream - length rest) stream ≡ rest
+left_is stream rest done so_far = ap (drop (length stream - length rest)) so_far.whole ∙ drop_at so_far.front rest _
+    (omega (arith, ap length so_far.whole, length-append so_far.front rest))
 
-pub ends : (stream rest : List ℕ) (done : List MessageValue) (ending : Ending) → SoFar stream done rest → EndsIn rest ending → Reads stream done ending
-ends stream rest done ending so_far h = subst (λ (ms : List MessageValue). Reads stream ms ending) (append-nil done) (so_far.forth [] ending h)
+pub ends : (stream rest : List ℕ) (done : List MessageValue) (ending : Ending) → SoFar stream done rest →
+    EndsIn rest ending → Reads stream done ending
+ends stream rest done ending so_far h = subst (λ (ms : List MessageValue). Reads stream ms ending) (append-nil done)
+    (so_far.forth [] ending h)
 
-pub ends_awaited : (stream rest : List ℕ) (done : List MessageValue) → SoFar stream done rest → IsAwaited rest → Reads stream done (awaits (drop (length stream - length rest) stream))
-ends_awaited stream rest done so_far awaited = ends stream rest done (awaits (drop (length stream - length rest) stream)) so_far (sym (left_is stream rest done so_far), awaited)
+pub ends_awaited : (stream rest : List ℕ) (done : List MessageValue) → SoFar stream done rest → IsAwaited rest →
+    Reads stream done (awaits (drop (length stream - length rest) stream))
+ends_awaited stream rest done so_far awaited = ends stream rest done
+    (awaits (drop (length stream - length rest) stream)) so_far (sym (left_is stream rest done so_far), awaited)

@@ -17,7 +17,8 @@ abbrev pub ending_of : Option MsgFault → List ℕ → Ending
 ending_of None rest = awaits rest
 ending_of (Some fault) rest = stops fault
 
--- The framer has seen this stream and handed out these messages: with those that wait they are the messages of the stream.
+-- The framer has seen this stream and handed out these messages: with those that wait they are the messages of the
+-- stream.
 abbrev pub HasSeen : Framed → List ℕ → List MessageValue → Type 0
 HasSeen f stream handed = Reads stream (handed ++ f.ready) (ending_of f.fault f.rest)
 

@@ -19,7 +19,8 @@ use Rattle.ldap_match.specs.NameValues.{EqualValuesAreOneName}
 -- whether types with keys are one, decided; then sets of them, and lists of sets
 pair_decides : (a b : ℕ × List ℕ) → Decides (is_same_pair a b) (a ≡ b)
 pair_decides a b =
-    Decides-like (is_same_pair a b) (λ p. ap₂ (λ (x : ℕ) (y : List ℕ). (x, y)) p.0 p.1) (λ e. (ap (λ (x : ℕ × List ℕ). x.0) e, ap (λ (x : ℕ × List ℕ). x.1) e))
+    Decides-like (is_same_pair a b) (λ p. ap₂ (λ (x : ℕ) (y : List ℕ). (x, y)) p.0 p.1)
+    (λ e. (ap (λ (x : ℕ × List ℕ). x.0) e, ap (λ (x : ℕ × List ℕ). x.1) e))
     (Decides-and (nat_eq a.0 b.0) (bytes_eq a.1 b.1) (Decides-eqb a.0 b.0) (bytes_eq-Decides a.1 b.1))
 
 rdn_decides : (a b : List (ℕ × List ℕ)) → Decides (pointwise is_same_pair a b) (a ≡ b)
@@ -47,7 +48,8 @@ spelled_out : (a b : List (List (ℕ × List ℕ))) → name a ≡ name b → a 
 spelled_out a b e = cc
 
 -- names have one key exactly where they mean the same
-names_equal : NameKeysAreOfNames → (a b : List RdnModel) → (key_of_name a ≡ key_of_name b) ↔ (name_meaning a ≡ name_meaning b)
+names_equal : NameKeysAreOfNames → (a b : List RdnModel) → (key_of_name a ≡ key_of_name b) ↔
+    (name_meaning a ≡ name_meaning b)
 names_equal h a b = (
   λ e. ap (λ (x : List (List TypeAndKey)). name (map (map pair_of) x)) ((h a b).0 e),
   λ e. (h a b).1 (same_pairs (rdns a) (rdns b) (spelled_out _ _ e)),
@@ -63,7 +65,9 @@ pub named_some : (o : Option (List RdnModel)) → is_some (option_map key_of_nam
 named_some None = refl
 named_some (Some n) = refl
 
-pub named_equal : NameKeysAreOfNames → (o p : Option (List RdnModel)) (m n : Meaning) (k l : List ℕ) → option_map name_meaning o ≡ Some m → option_map name_meaning p ≡ Some n → option_map key_of_name o ≡ Some k → option_map key_of_name p ≡ Some l
+pub named_equal : NameKeysAreOfNames → (o p : Option (List RdnModel)) (m n : Meaning) (k l : List ℕ) →
+    option_map name_meaning o ≡ Some m → option_map name_meaning p ≡ Some n → option_map key_of_name o ≡ Some k →
+    option_map key_of_name p ≡ Some l
     → (k ≡ l) ↔ (m ≡ n)
 named_equal h None p m n k l e f g i = absurd (cc)
 named_equal h (Some a) None m n k l e f g i = absurd (cc)
@@ -75,7 +79,8 @@ named_equal h (Some a) (Some b) m n k l e f g i =
     let q = names_equal h a b in (λ x. sym em ∙ q.0 (ek ∙ x ∙ sym el) ∙ en, λ y. sym ek ∙ q.1 (em ∙ y ∙ sym en) ∙ el)
 
 -- a value in UTF-8 spells the name of its text, and any other none
-pub text_named : (s : SchemaModel) (v : List ℕ) {n : List RdnModel} → IsUtf8 v → name_of_text s v ≡ Some n → name_of s v ≡ Some n
+pub text_named : (s : SchemaModel) (v : List ℕ) {n : List RdnModel} → IsUtf8 v → name_of_text s v ≡ Some n →
+    name_of s v ≡ Some n
 text_named s v u e = rw (is_utf8-from_IsUtf8 v u) e
 
 not_true : (b : Bool) → (b ≡ true → ⊥) → b ≡ false

@@ -90,14 +90,17 @@ abbrev pub beside : Option Rule → Option Rule → Option Rule
 beside None r = None
 beside (Some o) r = r
 
--- The ORDERING rule in effect for a type: its EQUALITY rule, where it has an ORDERING rule and values of the family have
+-- The ORDERING rule in effect for a type: its EQUALITY rule, where it has an ORDERING rule and values of the family
+-- have
 -- an order. The rules of one type are of one family, so values mean under both the same.
 abbrev pub ordering_of : SchemaModel → ℕ → Option Rule
 ordering_of s t = option_and_then (λ d. beside d.ordering (of_family is_ordering d.equality)) (slice_get s.types t)
 
--- the SUBSTR rule in effect for a type: its EQUALITY rule, where it has a SUBSTR rule and the family has one of substrings
+-- the SUBSTR rule in effect for a type: its EQUALITY rule, where it has a SUBSTR rule and the family has one of
+-- substrings
 abbrev pub substrings_of : SchemaModel → ℕ → Option Rule
-substrings_of s t = option_and_then (λ d. beside d.substrings (of_family has_substrings d.equality)) (slice_get s.types t)
+substrings_of s t = option_and_then (λ d. beside d.substrings (of_family has_substrings d.equality))
+    (slice_get s.types t)
 
 -- ---- the parts of an assertion
 
@@ -122,13 +125,15 @@ each_by f [] = Some []
 each_by f (v ∷ vs) = put_before (f v) (each_by f vs)
 
 -- the initial, any and final parts together; nothing, where one of them can't be prepared
-abbrev pub three_parts : Option (Option (List ℕ)) → Option (List (List ℕ)) → Option (Option (List ℕ)) → Option PartsModel
+abbrev pub three_parts : Option (Option (List ℕ)) → Option (List (List ℕ)) → Option (Option (List ℕ)) →
+    Option PartsModel
 three_parts (Some i) (Some a) (Some l) = Some (record { initial = i; any = a; last = l })
 three_parts i a l = None
 
 -- The prepared parts under a rule; nothing, where one is no part of a value of the rule's syntax (RFC 4517 3.3.30).
 abbrev pub prepared_parts : Rule → PartsModel → Option PartsModel
-prepared_parts r p = three_parts (end_by (part_meaning r Initial) p.initial) (each_by (part_meaning r Any) p.any) (end_by (part_meaning r Final) p.last)
+prepared_parts r p = three_parts (end_by (part_meaning r Initial) p.initial) (each_by (part_meaning r Any) p.any)
+    (end_by (part_meaning r Final) p.last)
 
 -- ---- an item on an attribute
 
@@ -138,7 +143,8 @@ answered asks s r None values = Undefined
 answered asks s r (Some m) values = truth_of (list_any (λ v. asks m (meaning s r v)) values)
 
 -- the same by the rule of a type; Undefined, where the type lacks it
-abbrev pub by_rule : {A : Type 0} → (A → Option Meaning → Bool) → (Rule → Option A) → SchemaModel → Option Rule → List (List ℕ) → Truth
+abbrev pub by_rule : {A : Type 0} → (A → Option Meaning → Bool) → (Rule → Option A) → SchemaModel → Option Rule →
+    List (List ℕ) → Truth
 by_rule asks asserted s None values = Undefined
 by_rule asks asserted s (Some r) values = answered asks s r (asserted r) values
 
@@ -152,7 +158,8 @@ item_on_attribute s present t values = True
 item_on_attribute s (equal a) t values = equality_by s (equality_of s t) a values
 item_on_attribute s (at_least a) t values = by_rule is_at_least (λ r. meaning s r a) s (ordering_of s t) values
 item_on_attribute s (at_most a) t values = by_rule is_at_most (λ r. meaning s r a) s (ordering_of s t) values
-item_on_attribute s (substrings p) t values = by_rule has_prepared (λ r. prepared_parts r p) s (substrings_of s t) values
+item_on_attribute s (substrings p) t values = by_rule has_prepared (λ r. prepared_parts r p) s (substrings_of s t)
+    values
 
 -- whether an assertion value means something under a rule, where there is one
 abbrev pub is_valid_by : SchemaModel → Option Rule → List ℕ → Bool

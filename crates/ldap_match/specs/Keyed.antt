@@ -37,7 +37,8 @@ key_at s r v = key_by s r r.family v
 
 -- the key of each part under a rule; none, where one is no part of a value
 abbrev pub part_keys_at : Rule → PartsModel → Option PartsModel
-part_keys_at r p = three_parts (end_by (syntax.part_key_at r Initial) p.initial) (each_by (syntax.part_key_at r Any) p.any) (end_by (syntax.part_key_at r Final) p.last)
+part_keys_at r p = three_parts (end_by (syntax.part_key_at r Initial) p.initial) (each_by (syntax.part_key_at r Any)
+    p.any) (end_by (syntax.part_key_at r Final) p.last)
 
 -- the test by a key; unknown, where there is no key
 abbrev pub test_of : {A : Type 0} → (A → Test) → Option A → Test

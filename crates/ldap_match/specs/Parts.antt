@@ -26,12 +26,15 @@ tails (x ∷ xs) = (x ∷ xs) ∷ tails xs
 -- the parts stand in the text in order, each behind the one before
 abbrev pub are_in_order : List (List ℕ) → List ℕ → Bool
 are_in_order [] whole = true
-are_in_order (p ∷ ps) whole = list_any (λ rest. is_at_start p rest && are_in_order ps (drop (length p) rest)) (tails whole)
+are_in_order (p ∷ ps) whole = list_any (λ rest. is_at_start p rest && are_in_order ps (drop (length p) rest))
+    (tails whole)
 
--- The initial part stands at the start, the last part at the end of what follows, and the others between them in order, none
+-- The initial part stands at the start, the last part at the end of what follows, and the others between them in order,
+-- none
 -- over another.
 abbrev pub has_parts : PartsModel → List ℕ → Bool
 has_parts p whole =
     let rest = drop (length (part_or_nothing p.initial)) whole in
     let last = part_or_nothing p.last in
-    is_at_start (part_or_nothing p.initial) whole && (is_at_end last rest && are_in_order p.any (take (length rest - length last) rest))
+    is_at_start (part_or_nothing p.initial) whole
+    && (is_at_end last rest && are_in_order p.any (take (length rest - length last) rest))

@@ -55,22 +55,28 @@ request_stands (abandon x) o h = (x, h)
 request_stands (extended_request x) o h = (x, h)
 
 -- a request of a first octet has the content of that octet
-pub request_at : (n : ℕ) (o : List ℕ) → (r : RequestValue) × (request_octet r ≡ n) × IsRequestContent r o → RequestAt n o
+pub request_at : (n : ℕ) (o : List ℕ) → (r : RequestValue) × (request_octet r ≡ n) × IsRequestContent r o →
+    RequestAt n o
 request_at n o (r, e, h) = subst (λ (m : ℕ). RequestAt m o) e (request_stands r o h)
 
-pub is_search : (o : List ℕ) → (r : RequestValue) × (request_octet r ≡ 99) × IsRequestContent r o → (x : SearchRequestValue) × IsSearchRequest x o
+pub is_search : (o : List ℕ) → (r : RequestValue) × (request_octet r ≡ 99) × IsRequestContent r o →
+    (x : SearchRequestValue) × IsSearchRequest x o
 is_search o = request_at 99 o
 
-pub is_modify : (o : List ℕ) → (r : RequestValue) × (request_octet r ≡ 102) × IsRequestContent r o → (x : ModifyRequestValue) × IsModifyRequest x o
+pub is_modify : (o : List ℕ) → (r : RequestValue) × (request_octet r ≡ 102) × IsRequestContent r o →
+    (x : ModifyRequestValue) × IsModifyRequest x o
 is_modify o = request_at 102 o
 
-pub is_add : (o : List ℕ) → (r : RequestValue) × (request_octet r ≡ 104) × IsRequestContent r o → (x : AddRequestValue) × IsAddRequest x o
+pub is_add : (o : List ℕ) → (r : RequestValue) × (request_octet r ≡ 104) × IsRequestContent r o →
+    (x : AddRequestValue) × IsAddRequest x o
 is_add o = request_at 104 o
 
-pub is_delete : (o : List ℕ) → (r : RequestValue) × (request_octet r ≡ 74) × IsRequestContent r o → (x : List ℕ) × IsDelRequest x o
+pub is_delete : (o : List ℕ) → (r : RequestValue) × (request_octet r ≡ 74) × IsRequestContent r o → (x : List ℕ)
+    × IsDelRequest x o
 is_delete o = request_at 74 o
 
-pub is_modify_dn : (o : List ℕ) → (r : RequestValue) × (request_octet r ≡ 108) × IsRequestContent r o → (x : ModifyDnRequestValue) × IsModifyDnRequest x o
+pub is_modify_dn : (o : List ℕ) → (r : RequestValue) × (request_octet r ≡ 108) × IsRequestContent r o →
+    (x : ModifyDnRequestValue) × IsModifyDnRequest x o
 is_modify_dn o = request_at 108 o
 
 -- whatever has this first octet and content is this request
@@ -112,7 +118,8 @@ request_other (compare x) v o h same = same x h
 request_other (abandon x) v o h same = same x h
 request_other (extended_request x) v o h same = same x h
 
-pub request_same : (v w : RequestValue) (o : List ℕ) → request_octet v ≡ request_octet w → IsRequestContent v o → IsRequestContent w o → v ≡ w
+pub request_same : (v w : RequestValue) (o : List ℕ) → request_octet v ≡ request_octet w → IsRequestContent v o →
+    IsRequestContent w o → v ≡ w
 request_same v w o e p q = request_other w v o q (subst (λ (n : ℕ). RequestSame n v o) e (request_own v o p))
 
 -- ---- responses
@@ -142,7 +149,8 @@ response_own (modify_dn_response x) o h = λ y g. ap modify_dn_response (result_
 response_own (compare_response x) o h = λ y g. ap compare_response (result_one x y o h g)
 response_own (extended x) o h = λ y g. ap extended (extended_one x y o h g)
 
-response_other : (w v : ResponseValue) (o : List ℕ) → IsResponseContent w o → ResponseSame (response_octet w) v o → v ≡ w
+response_other : (w v : ResponseValue) (o : List ℕ) → IsResponseContent w o → ResponseSame (response_octet w) v o →
+    v ≡ w
 response_other (bind_response x) v o h same = same x h
 response_other (search_entry x) v o h same = same x h
 response_other (search_done x) v o h same = same x h
@@ -153,13 +161,16 @@ response_other (modify_dn_response x) v o h same = same x h
 response_other (compare_response x) v o h same = same x h
 response_other (extended x) v o h same = same x h
 
-pub response_same : (v w : ResponseValue) (o : List ℕ) → response_octet v ≡ response_octet w → IsResponseContent v o → IsResponseContent w o → v ≡ w
+pub response_same : (v w : ResponseValue) (o : List ℕ) → response_octet v ≡ response_octet w → IsResponseContent v o →
+    IsResponseContent w o → v ≡ w
 response_same v w o e p q = response_other w v o q (subst (λ (n : ℕ). ResponseSame n v o) e (response_own v o p))
 
 -- ---- requests and responses
 
 abbrev is_request_octet : ℕ → Bool
-is_request_octet n = eqb n 96 || (eqb n 66 || (eqb n 99 || (eqb n 102 || (eqb n 104 || (eqb n 74 || (eqb n 108 || (eqb n 110 || (eqb n 80 || (eqb n 119)))))))))
+is_request_octet n = eqb n 96 ||
+    (eqb n 66 || (eqb n 99 ||
+    (eqb n 102 || (eqb n 104 || (eqb n 74 || (eqb n 108 || (eqb n 110 || (eqb n 80 || (eqb n 119)))))))))
 
 request_true : (r : RequestValue) → is_request_octet (request_octet r) ≡ true
 request_true (bind x) = refl
@@ -196,7 +207,8 @@ no_request n e r h = true_not_false (sym (request_true r) ∙ ap is_request_octe
 pub not_both : (r : RequestValue) (s : ResponseValue) → request_octet r ≡ response_octet s → ⊥
 not_both r s e = no_response (request_octet r) (request_true r) s (sym e)
 
-pub operation_same : (v w : OperationValue) (o : List ℕ) → operation_octet v ≡ operation_octet w → IsOperation v o → IsOperation w o → v ≡ w
+pub operation_same : (v w : OperationValue) (o : List ℕ) → operation_octet v ≡ operation_octet w → IsOperation v o →
+    IsOperation w o → v ≡ w
 operation_same (request v) (request w) o e p q = ap request (request_same v w o e p q)
 operation_same (response v) (response w) o e p q = ap response (response_same v w o e p q)
 operation_same (request v) (response w) o e p q = absurd (not_both v w e)

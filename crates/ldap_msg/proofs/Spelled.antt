@@ -21,7 +21,8 @@ use Rattle.ldap_msg.specs.Messages.{bind, unbind, search, modify, add, delete, m
 use Rattle.ldap_msg.specs.Grammar.{request_octet, IsRequestContent, response_octet, IsResponseContent, operation_octet, IsOperation, IsMessageContent, IsMessage}
 use Rattle.ldap_msg.specs.Written.{request_content, response_content, operation_content, operation_bytes, message_content, message_bytes, IsRequestInRange, IsResponseInRange, IsOperationInRange, IsInRange}
 
-request_written : (r : RequestValue) → IsRequestInRange r → IsShort (request_content r) → IsRequestContent r (request_content r)
+request_written : (r : RequestValue) → IsRequestInRange r → IsShort (request_content r) →
+    IsRequestContent r (request_content r)
 request_written (bind x) range small = bind_written x range small
 request_written unbind range small = refl
 request_written (search x) range small = search_written x range small
@@ -33,7 +34,8 @@ request_written (compare x) range small = compare_written x range small
 request_written (abandon x) range small = abandon_written x range small
 request_written (extended_request x) range small = extended_request_written x range small
 
-response_written : (r : ResponseValue) → IsResponseInRange r → IsShort (response_content r) → IsResponseContent r (response_content r)
+response_written : (r : ResponseValue) → IsResponseInRange r → IsShort (response_content r) →
+    IsResponseContent r (response_content r)
 response_written (bind_response x) range small = result_written x range small
 response_written (search_entry x) range small = search_entry_written x range small
 response_written (search_done x) range small = result_written x range small
@@ -44,7 +46,8 @@ response_written (modify_dn_response x) range small = result_written x range sma
 response_written (compare_response x) range small = result_written x range small
 response_written (extended x) range small = extended_written x range small
 
-operation : (op : OperationValue) → IsOperationInRange op → IsShort (operation_content op) → IsOperation op (operation_content op)
+operation : (op : OperationValue) → IsOperationInRange op → IsShort (operation_content op) →
+    IsOperation op (operation_content op)
 operation (request r) range small = request_written r range small
 operation (response r) range small = response_written r range small
 
@@ -83,16 +86,29 @@ content m range small =
     let b_short = inner (operation_octet m.op) (operation_content m.op) (right a b (left (a ++ b) d small)) in
     let d_short = right (a ++ b) d small in
     let whole : a ++ (b ++ (d ++ [])) ≡ a ++ b ++ d = sym (regroup_three a b d []) ∙ append-nil (a ++ b ++ d) in
-    let controls : AreControls m.controls (d ++ []) = record { rest = []; first = row_or_none HasControl control_bytes (λ k. IsUtf8 k.control_type) control 160 m.controls [] (omega arith) range.controls d_short tt; next = none } in
+    let controls : AreControls m.controls (d ++ []) = record {
+      rest = [];
+      first = row_or_none HasControl control_bytes
+          (λ k. IsUtf8 k.control_type) control 160 m.controls [] (omega arith) range.controls d_short tt;
+      next =
+          none;
+    } in
     subst (IsMessageContent m) whole (record {
       parts = record {
         rest = b ++ (d ++ []);
         first = number 2 (2 ^ 31) m.id (b ++ (d ++ [])) (omega arith) range.id (small_number m.id range.id);
-        next = record { rest = d ++ []; first = part (IsOperation m.op) (operation_octet m.op) (operation_content m.op) (d ++ []) (low m.op) b_short (operation m.op range.op b_short); next = controls };
+        next = record {
+          rest = d ++ [];
+          first = part (IsOperation m.op) (operation_octet m.op)
+              (operation_content m.op) (d ++ []) (low m.op) b_short (operation m.op range.op b_short);
+          next = controls;
+        };
       };
       id_for = range.id_for;
     })
 
-pub is_message : (m : MessageValue) → IsInRange m → length (message_content m) < 4294967296 → IsMessage (message_bytes m) m
+pub is_message : (m : MessageValue) → IsInRange m → length (message_content m) < 4294967296 →
+    IsMessage (message_bytes m) m
 is_message m range small =
-    subst (λ (o : List ℕ). IsMessage o m) (append-nil (message_bytes m)) (part (IsMessageContent m) 48 (message_content m) [] (omega arith) small (content m range small))
+    subst (λ (o : List ℕ). IsMessage o m) (append-nil (message_bytes m))
+    (part (IsMessageContent m) 48 (message_content m) [] (omega arith) small (content m range small))

@@ -14,7 +14,11 @@ use Rattle.ldap_msg.proofs.Choices.{operation_same}
 pub operation_unique : IsUnique HasOperation
 operation_unique v w o x y p q =
     let s = same_field o p.content q.content x y (operation_octet v) (operation_octet w) p.field q.field in
-    record { value = operation_same v w q.content s.first (subst (IsOperation v) s.content p.inside) q.inside; rest = s.rest }
+    record {
+      value = operation_same v w q.content s.first (subst (IsOperation v) s.content p.inside) q.inside;
+      rest =
+          s.rest;
+    }
 
 message_same : (v w : MessageValue) → v.id ≡ w.id → v.op ≡ w.op → v.controls ≡ w.controls → v ≡ w
 message_same v w e0 e1 e2 =
@@ -41,5 +45,7 @@ behind_message a x m p = record {
 
 pub one : (m n : MessageValue) (a b x y : List ℕ) → IsMessage a m → IsMessage b n → a ++ x ≡ b ++ y → (a ≡ b) × (m ≡ n)
 one m n a b x y p q e =
-    let s = part_unique IsMessageContent content_one 48 m n (b ++ y) x y (subst (λ (z : List ℕ). HasPart (IsMessageContent m) z 48 x) e (behind_message a x m p)) (behind_message b y n q) in
+    let s = part_unique IsMessageContent content_one 48 m n (b ++ y) x y
+    (subst (λ (z : List ℕ). HasPart (IsMessageContent m) z 48 x) e (behind_message a x m p))
+    (behind_message b y n q) in
     (append_cancel_right a b y (ap (λ (r : List ℕ). a ++ r) (sym s.rest) ∙ e), s.value)

@@ -7,7 +7,8 @@ use Rattle.ldap_updates.specs.Grammar.{IsModifyRequest, IsAddRequest, IsDelReque
 use Rattle.ldap_responses.specs.Grammar.{IsSearchResultEntry, IsExtendedResponse}
 use Rattle.ldap_msg.specs.Messages.{bind, unbind, search, modify, add, delete, modify_dn, compare, abandon, extended_request, RequestValue, bind_response, search_entry, search_done, modify_response, add_response, delete_response, modify_dn_response, compare_response, extended, ResponseValue, OperationValue, request, response, MessageValue}
 
--- the first octet of a request: its application tag, constructed but for a NULL, a text or an integer (RFC 4511 4.2 to 4.12)
+-- the first octet of a request: its application tag, constructed but for a NULL, a text or an integer (RFC 4511 4.2 to
+-- 4.12)
 abbrev pub request_octet : RequestValue → ℕ
 request_octet (bind x) = 96
 request_octet unbind = 66
@@ -78,7 +79,8 @@ IsIdFor (response r) id = Unit {0}
 
 -- The content of LDAPMessage: messageID INTEGER (0 .. maxInt), protocolOp CHOICE, controls [0] Controls OPTIONAL.
 pub record IsMessageContent (m : MessageValue) (content : List ℕ) : Type 0 where
-  pub parts : Seq (HasNumber content 2 (2 ^ 31) m.id) (λ octets. Seq (HasOperation m.op octets) (AreControls m.controls))
+  pub parts : Seq (HasNumber content 2 (2 ^ 31) m.id) (λ octets. Seq (HasOperation m.op octets)
+      (AreControls m.controls))
   pub id_for : IsIdFor m.op m.id
 
 -- LDAPMessage ::= SEQUENCE (RFC 4511 4.1.1), the whole of the octets

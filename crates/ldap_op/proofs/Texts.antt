@@ -4,24 +4,30 @@ use Rattle.std.specs.List.{AllByRecursion}
 use Rattle.std.proofs.lemmas.Bool.{eqb-true}
 use Rattle.std.proofs.lemmas.List.{map_more, take_all}
 
-all_snoc : {X : Type 0} (P : X → Type 0) (xs : List X) (x : X) → AllByRecursion P xs → P x → AllByRecursion P (xs ++ x ∷ [])
+all_snoc : {X : Type 0} (P : X → Type 0) (xs : List X) (x : X) → AllByRecursion P xs → P x →
+    AllByRecursion P (xs ++ x ∷ [])
 all_snoc P [] x h p = (p, tt)
 all_snoc P (y ∷ ys) x h p = (h.0, all_snoc P ys x h.1 p)
 
 -- one element more
-pub all_more : {X Y : Type 0} (P : Y → Type 0) (f : X → Y) (xs : List X) (i : ℕ) (d : X) → i < length xs → AllByRecursion P (map f (take i xs)) → P (f (get_or xs i d)) → AllByRecursion P (map f (take (i + 1) xs))
-all_more {X} {Y} P f xs i d lt h p = subst (λ (l : List Y). AllByRecursion P l) (sym (map_more f xs i d lt)) (all_snoc P (map f (take i xs)) (f (get_or xs i d)) h p)
+pub all_more : {X Y : Type 0} (P : Y → Type 0) (f : X → Y) (xs : List X) (i : ℕ) (d : X) → i < length xs →
+    AllByRecursion P (map f (take i xs)) → P (f (get_or xs i d)) → AllByRecursion P (map f (take (i + 1) xs))
+all_more {X} {Y} P f xs i d lt h p = subst (λ (l : List Y). AllByRecursion P l) (sym (map_more f xs i d lt))
+    (all_snoc P (map f (take i xs)) (f (get_or xs i d)) h p)
 
 -- all of them
-pub all_done : {X Y : Type 0} (P : Y → Type 0) (f : X → Y) (xs : List X) (i : ℕ) → length xs ≤ i → AllByRecursion P (map f (take i xs)) → AllByRecursion P (map f xs)
+pub all_done : {X Y : Type 0} (P : Y → Type 0) (f : X → Y) (xs : List X) (i : ℕ) → length xs ≤ i →
+    AllByRecursion P (map f (take i xs)) → AllByRecursion P (map f xs)
 all_done {X} P f xs i le h = subst (λ (l : List X). AllByRecursion P (map f l)) (take_all i xs le) h
 
 -- the same, of the element as it was read
-pub all_more_at : {X Y : Type 0} (P : Y → Type 0) (f : X → Y) (xs : List X) (i : ℕ) (d : X) → i < length xs → d ≡ get_or xs i d → AllByRecursion P (map f (take i xs)) → P (f d) → AllByRecursion P (map f (take (i + 1) xs))
+pub all_more_at : {X Y : Type 0} (P : Y → Type 0) (f : X → Y) (xs : List X) (i : ℕ) (d : X) → i < length xs →
+    d ≡ get_or xs i d → AllByRecursion P (map f (take i xs)) → P (f d) → AllByRecursion P (map f (take (i + 1) xs))
 all_more_at {X} P f xs i d lt is h p = all_more P f xs i d lt h (subst (λ (x : X). P (f x)) is p)
 
 -- one of them
-pub all_at : {X Y : Type 0} (P : Y → Type 0) (f : X → Y) (xs : List X) (i : ℕ) (d : X) → i < length xs → d ≡ get_or xs i d → AllByRecursion P (map f xs) → P (f d)
+pub all_at : {X Y : Type 0} (P : Y → Type 0) (f : X → Y) (xs : List X) (i : ℕ) (d : X) → i < length xs →
+    d ≡ get_or xs i d → AllByRecursion P (map f xs) → P (f d)
 all_at P f [] i d lt is h = absurd (omega (arith, lt))
 all_at {X} P f (x ∷ xs) zero d lt is h = subst (λ (z : X). P (f z)) (sym is) h.0
 all_at P f (x ∷ xs) (suc i) d lt is h = all_at P f xs i d (omega (arith, lt)) is h.1

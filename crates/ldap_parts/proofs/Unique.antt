@@ -43,11 +43,27 @@ pub record Outcome : Type 0 where
 abbrev pub outcome_part : Outcome → List ℕ → List ℕ → Type 0
 outcome_part v octets rest = IsOutcome v.code v.matched_dn v.diagnostic_message octets rest
 
-outcome_same : (v w : Outcome) → v.code ≡ w.code → v.matched_dn ≡ w.matched_dn → v.diagnostic_message ≡ w.diagnostic_message → v ≡ w
+outcome_same : (v w : Outcome) → v.code ≡ w.code → v.matched_dn ≡ w.matched_dn → v.diagnostic_message ≡
+    w.diagnostic_message → v ≡ w
 outcome_same v w e0 e1 e2 =
-    ap (λ (x : ℕ). let r : Outcome = record { code = x; matched_dn = v.matched_dn; diagnostic_message = v.diagnostic_message } in r) e0
-    ∙ ap (λ (x : List ℕ). let r : Outcome = record { code = w.code; matched_dn = x; diagnostic_message = v.diagnostic_message } in r) e1
-    ∙ ap (λ (x : List ℕ). let r : Outcome = record { code = w.code; matched_dn = w.matched_dn; diagnostic_message = x } in r) e2
+    ap (λ (x : ℕ). let r : Outcome = record {
+      code = x;
+      matched_dn = v.matched_dn;
+      diagnostic_message =
+          v.diagnostic_message;
+    } in r) e0
+    ∙ ap (λ (x : List ℕ). let r : Outcome = record {
+      code = w.code;
+      matched_dn = x;
+      diagnostic_message =
+          v.diagnostic_message;
+    } in r) e1
+    ∙ ap (λ (x : List ℕ). let r : Outcome = record {
+      code = w.code;
+      matched_dn = w.matched_dn;
+      diagnostic_message =
+          x;
+    } in r) e2
 
 pub outcome_unique : IsUnique outcome_part
 outcome_unique v w o x y p q =
@@ -59,33 +75,78 @@ outcome_unique v w o x y p q =
 abbrev pub outcome_of : LdapResultValue → Outcome
 outcome_of r = record { code = r.code; matched_dn = r.matched_dn; diagnostic_message = r.diagnostic_message }
 
-result_same : (v w : LdapResultValue) → v.code ≡ w.code → v.matched_dn ≡ w.matched_dn → v.diagnostic_message ≡ w.diagnostic_message → v.referral ≡ w.referral → v ≡ w
+result_same : (v w : LdapResultValue) → v.code ≡ w.code → v.matched_dn ≡ w.matched_dn → v.diagnostic_message ≡
+    w.diagnostic_message → v.referral ≡ w.referral → v ≡ w
 result_same v w e0 e1 e2 e3 =
-    ap (λ (x : ℕ). let r : LdapResultValue = record { code = x; matched_dn = v.matched_dn; diagnostic_message = v.diagnostic_message; referral = v.referral } in r) e0
-    ∙ ap (λ (x : List ℕ). let r : LdapResultValue = record { code = w.code; matched_dn = x; diagnostic_message = v.diagnostic_message; referral = v.referral } in r) e1
-    ∙ ap (λ (x : List ℕ). let r : LdapResultValue = record { code = w.code; matched_dn = w.matched_dn; diagnostic_message = x; referral = v.referral } in r) e2
-    ∙ ap (λ (x : List (List ℕ)). let r : LdapResultValue = record { code = w.code; matched_dn = w.matched_dn; diagnostic_message = w.diagnostic_message; referral = x } in r) e3
+    ap (λ (x : ℕ). let r : LdapResultValue = record {
+      code = x;
+      matched_dn = v.matched_dn;
+      diagnostic_message =
+          v.diagnostic_message;
+      referral = v.referral;
+    } in r) e0
+    ∙ ap (λ (x : List ℕ). let r : LdapResultValue = record {
+      code = w.code;
+      matched_dn = x;
+      diagnostic_message =
+          v.diagnostic_message;
+      referral = v.referral;
+    } in r) e1
+    ∙ ap (λ (x : List ℕ). let r : LdapResultValue = record {
+      code = w.code;
+      matched_dn = w.matched_dn;
+      diagnostic_message = x;
+      referral = v.referral;
+    } in r) e2
+    ∙ ap (λ (x : List (List ℕ)). let r : LdapResultValue = record {
+      code = w.code;
+      matched_dn = w.matched_dn;
+      diagnostic_message = w.diagnostic_message;
+      referral = x;
+    } in r) e3
 
 pub result_unique : IsUnique HasLdapResult
 result_unique v w o x y p q =
     let s = step outcome_part outcome_unique _ (outcome_of v) (outcome_of w) o p.rest p.first q in
     let t = texts_or_none_unique 163 v.referral w.referral p.rest x y p.next s.next in
-    record { value = result_same v w (ap (λ (z : Outcome). z.code) s.value) (ap (λ (z : Outcome). z.matched_dn) s.value) (ap (λ (z : Outcome). z.diagnostic_message) s.value) t.value; rest = t.rest }
+    record {
+      value = result_same v w (ap (λ (z : Outcome). z.code) s.value) (ap (λ (z : Outcome). z.matched_dn)
+          s.value) (ap (λ (z : Outcome). z.diagnostic_message) s.value) t.value;
+      rest = t.rest;
+    }
 
 pub result_one : IsOneValue IsLdapResult
 result_one v w o p q = (step HasLdapResult result_unique _ v w o p.rest p.first q).value
 
-control_same : (v w : ControlValue) → v.control_type ≡ w.control_type → v.criticality ≡ w.criticality → v.value ≡ w.value → v ≡ w
+control_same : (v w : ControlValue) → v.control_type ≡ w.control_type → v.criticality ≡ w.criticality →
+    v.value ≡ w.value → v ≡ w
 control_same v w e0 e1 e2 =
-    ap (λ (x : List ℕ). let r : ControlValue = record { control_type = x; criticality = v.criticality; value = v.value } in r) e0
-    ∙ ap (λ (x : Bool). let r : ControlValue = record { control_type = w.control_type; criticality = x; value = v.value } in r) e1
-    ∙ ap (λ (x : Option (List ℕ)). let r : ControlValue = record { control_type = w.control_type; criticality = w.criticality; value = x } in r) e2
+    ap (λ (x : List ℕ). let r : ControlValue = record {
+      control_type = x;
+      criticality = v.criticality;
+      value =
+          v.value;
+    } in r) e0
+    ∙ ap (λ (x : Bool). let r : ControlValue = record {
+      control_type = w.control_type;
+      criticality = x;
+      value =
+          v.value;
+    } in r) e1
+    ∙ ap (λ (x : Option (List ℕ)). let r : ControlValue = record {
+      control_type = w.control_type;
+      criticality =
+          w.criticality;
+      value = x;
+    } in r) e2
 
 pub control_one : IsOneValue IsControl
 control_one v w o p q =
     let s = step text_part (text_unique 4) _ v.control_type w.control_type o p.rest p.first q in
-    let t = step (flag_or_false_part 1) (flag_or_false_unique 1) _ v.criticality w.criticality p.rest p.next.rest p.next.first s.next in
-    let u = step (octets_or_none_part 4) (octets_or_none_unique 4) _ v.value w.value p.next.rest p.next.next.rest p.next.next.first t.next in
+    let t = step (flag_or_false_part 1) (flag_or_false_unique 1) _ v.criticality w.criticality p.rest p.next.rest
+    p.next.first s.next in
+    let u = step (octets_or_none_part 4) (octets_or_none_unique 4) _ v.value w.value p.next.rest p.next.next.rest
+    p.next.next.first t.next in
     control_same v w s.value t.value u.value
 
 pub control_unique : IsUnique HasControl

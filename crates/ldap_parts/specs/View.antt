@@ -21,4 +21,9 @@ result_view r = record {
 
 -- the value of a control
 abbrev pub control_view : Control → ControlValue
-control_view c = record { control_type = string_bytes c.control_type; criticality = c.criticality; value = option_map (λ v. v.items) c.value }
+control_view c = record {
+  control_type = string_bytes c.control_type;
+  criticality = c.criticality;
+  value =
+      option_map (λ v. v.items) c.value;
+}

@@ -18,7 +18,8 @@ attribute_bytes a = element_bytes 48 (attribute_content a)
 -- the content of a result
 abbrev pub result_content : LdapResultValue → List ℕ
 result_content r =
-    number_bytes 10 r.code ++ element_bytes 4 r.matched_dn ++ element_bytes 4 r.diagnostic_message ++ row_or_none_bytes (element_bytes 4) 163 r.referral
+    number_bytes 10 r.code ++ element_bytes 4 r.matched_dn ++ element_bytes 4
+    r.diagnostic_message ++ row_or_none_bytes (element_bytes 4) 163 r.referral
 
 -- the content of a control
 abbrev pub control_content : ControlValue → List ℕ

@@ -17,13 +17,16 @@ use Rattle.ldap_requests.specs.Written.{ava_content, compare_content, IsCompareI
 
 ava_same : (v w : AssertionValue) → v.attribute_desc ≡ w.attribute_desc → v.assertion_value ≡ w.assertion_value → v ≡ w
 ava_same v w e0 e1 =
-    ap (λ (x : List ℕ). let r : AssertionValue = record { attribute_desc = x; assertion_value = v.assertion_value } in r) e0
-    ∙ ap (λ (x : List ℕ). let r : AssertionValue = record { attribute_desc = w.attribute_desc; assertion_value = x } in r) e1
+    ap (λ (x : List ℕ). let r : AssertionValue = record { attribute_desc = x; assertion_value = v.assertion_value }
+    in r) e0
+    ∙ ap (λ (x : List ℕ). let r : AssertionValue = record { attribute_desc = w.attribute_desc; assertion_value = x }
+    in r) e1
 
 ava_one : IsOneValue IsAva
 ava_one v w o p q =
     let s = step text_part (text_unique 4) _ v.attribute_desc w.attribute_desc o p.rest p.first q in
-    let t = step (octets_part 4) (octets_unique 4) _ v.assertion_value w.assertion_value p.rest p.next.rest p.next.first s.next in
+    let t = step (octets_part 4) (octets_unique 4) _ v.assertion_value w.assertion_value p.rest p.next.rest
+    p.next.first s.next in
     ava_same v w s.value t.value
 
 abbrev pub ava_part : AssertionValue → List ℕ → List ℕ → Type 0
@@ -45,18 +48,24 @@ compare_one v w o p q =
 
 -- ---- exits of readers
 
-pub ava_value : (o x d : List ℕ) → HasText o 4 d x → (a : AssertionValue) × IsAva a o → (v r : List ℕ) × HasField x 4 v r
-ava_value o x d p (v, h) = let s = step text_part (text_unique 4) _ d v.attribute_desc o x p h in (v.assertion_value, s.next.rest, s.next.first)
+pub ava_value : (o x d : List ℕ) → HasText o 4 d x → (a : AssertionValue) × IsAva a o → (v r : List ℕ)
+    × HasField x 4 v r
+ava_value o x d p (v, h) = let s = step text_part (text_unique 4) _ d v.attribute_desc o x p h
+    in (v.assertion_value, s.next.rest, s.next.first)
 
-pub ava_end : (o x y d u : List ℕ) → HasText o 4 d x → HasField x 4 u y → (a : AssertionValue) × IsAva a o → AreElements y
+pub ava_end : (o x y d u : List ℕ) → HasText o 4 d x → HasField x 4 u y → (a : AssertionValue) × IsAva a o →
+    AreElements y
 ava_end o x y d u p q (v, h) =
     let s = step text_part (text_unique 4) _ d v.attribute_desc o x p h in
     (step (octets_part 4) (octets_unique 4) _ u v.assertion_value x y q s.next).next
 
-pub compare_ava : (o x d : List ℕ) → HasText o 4 d x → (k : CompareRequestValue) × IsCompareRequest k o → (a : AssertionValue) × (r : List ℕ) × HasPart (IsAva a) x 48 r
-compare_ava o x d p (v, h) = let s = step text_part (text_unique 4) _ d v.entry o x p h in (v.ava, s.next.rest, s.next.first)
+pub compare_ava : (o x d : List ℕ) → HasText o 4 d x → (k : CompareRequestValue) × IsCompareRequest k o →
+    (a : AssertionValue) × (r : List ℕ) × HasPart (IsAva a) x 48 r
+compare_ava o x d p (v, h) = let s = step text_part (text_unique 4) _ d v.entry o x p h
+    in (v.ava, s.next.rest, s.next.first)
 
-pub compare_end : (o x y d : List ℕ) (a : AssertionValue) → HasText o 4 d x → HasPart (IsAva a) x 48 y → (k : CompareRequestValue) × IsCompareRequest k o → AreElements y
+pub compare_end : (o x y d : List ℕ) (a : AssertionValue) → HasText o 4 d x → HasPart (IsAva a) x 48 y →
+    (k : CompareRequestValue) × IsCompareRequest k o → AreElements y
 compare_end o x y d a p q (v, h) =
     let s = step text_part (text_unique 4) _ d v.entry o x p h in
     (step ava_part ava_unique _ a v.ava x y q s.next).next
@@ -71,10 +80,16 @@ ava_written k utf8 small =
     subst (IsAva k) whole (record {
       rest = b ++ [];
       first = text k.attribute_desc (b ++ []) utf8 (inner 4 k.attribute_desc (left a b small));
-      next = record { rest = []; first = field 4 k.assertion_value [] (omega arith) (inner 4 k.assertion_value (right a b small)); next = none };
+      next = record {
+        rest = [];
+        first = field 4 k.assertion_value [] (omega arith)
+            (inner 4 k.assertion_value (right a b small));
+        next = none;
+      };
     })
 
-pub compare_written : (k : CompareRequestValue) → IsCompareInRange k → IsShort (compare_content k) → IsCompareRequest k (compare_content k)
+pub compare_written : (k : CompareRequestValue) → IsCompareInRange k → IsShort (compare_content k) →
+    IsCompareRequest k (compare_content k)
 compare_written k range small =
     let a = element_bytes 4 k.entry in
     let b = element_bytes 48 (ava_content k.ava) in
@@ -83,5 +98,10 @@ compare_written k range small =
     subst (IsCompareRequest k) whole (record {
       rest = b ++ [];
       first = text k.entry (b ++ []) range.0 (inner 4 k.entry (left a b small));
-      next = record { rest = []; first = part (IsAva k.ava) 48 (ava_content k.ava) [] (omega arith) content (ava_written k.ava range.1 content); next = none };
+      next = record {
+        rest = [];
+        first = part (IsAva k.ava) 48 (ava_content k.ava) [] (omega arith) content
+            (ava_written k.ava range.1 content);
+        next = none;
+      };
     })

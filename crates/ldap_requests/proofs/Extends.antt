@@ -18,26 +18,34 @@ use Rattle.ldap_requests.specs.Written.{extended_request_content, IsExtendedRequ
 
 -- ---- extended requests
 
-extended_same : (v w : ExtendedRequestValue) → v.request_name ≡ w.request_name → v.request_value ≡ w.request_value → v ≡ w
+extended_same : (v w : ExtendedRequestValue) → v.request_name ≡ w.request_name → v.request_value ≡ w.request_value →
+    v ≡ w
 extended_same v w e0 e1 =
-    ap (λ (x : List ℕ). let r : ExtendedRequestValue = record { request_name = x; request_value = v.request_value } in r) e0
-    ∙ ap (λ (x : Option (List ℕ)). let r : ExtendedRequestValue = record { request_name = w.request_name; request_value = x } in r) e1
+    ap (λ (x : List ℕ). let r : ExtendedRequestValue = record { request_name = x; request_value = v.request_value }
+    in r) e0
+    ∙ ap (λ (x : Option (List ℕ)). let r : ExtendedRequestValue =
+    record { request_name = w.request_name; request_value = x } in r) e1
 
 pub extended_request_one : IsOneValue IsExtendedRequest
 extended_request_one v w o p q =
     let s = step (tagged_text_part 128) (text_unique 128) _ v.request_name w.request_name o p.rest p.first q in
-    let t = step (octets_or_none_part 129) (octets_or_none_unique 129) _ v.request_value w.request_value p.rest p.next.rest p.next.first s.next in
+    let t = step (octets_or_none_part 129) (octets_or_none_unique 129) _ v.request_value w.request_value p.rest
+    p.next.rest p.next.first s.next in
     extended_same v w s.value t.value
 
-pub extended_value : (o x d : List ℕ) → HasText o 128 d x → (r : ExtendedRequestValue) × IsExtendedRequest r o → (u : Option (List ℕ)) × (rest : List ℕ) × HasOctetsOrNone x 129 u rest
-extended_value o x d p (v, h) = let s = step (tagged_text_part 128) (text_unique 128) _ d v.request_name o x p h in (v.request_value, s.next.rest, s.next.first)
+pub extended_value : (o x d : List ℕ) → HasText o 128 d x → (r : ExtendedRequestValue) × IsExtendedRequest r o →
+    (u : Option (List ℕ)) × (rest : List ℕ) × HasOctetsOrNone x 129 u rest
+extended_value o x d p (v, h) = let s = step (tagged_text_part 128) (text_unique 128) _ d v.request_name o x p h
+    in (v.request_value, s.next.rest, s.next.first)
 
-pub extended_end : (o x y d : List ℕ) (u : Option (List ℕ)) → HasText o 128 d x → HasOctetsOrNone x 129 u y → (r : ExtendedRequestValue) × IsExtendedRequest r o → AreElements y
+pub extended_end : (o x y d : List ℕ) (u : Option (List ℕ)) → HasText o 128 d x → HasOctetsOrNone x 129 u y →
+    (r : ExtendedRequestValue) × IsExtendedRequest r o → AreElements y
 extended_end o x y d u p q (v, h) =
     let s = step (tagged_text_part 128) (text_unique 128) _ d v.request_name o x p h in
     (step (octets_or_none_part 129) (octets_or_none_unique 129) _ u v.request_value x y q s.next).next
 
-pub extended_request_written : (r : ExtendedRequestValue) → IsExtendedRequestInRange r → IsShort (extended_request_content r) → IsExtendedRequest r (extended_request_content r)
+pub extended_request_written : (r : ExtendedRequestValue) → IsExtendedRequestInRange r →
+    IsShort (extended_request_content r) → IsExtendedRequest r (extended_request_content r)
 extended_request_written r range small =
     let a = element_bytes 128 r.request_name in
     let b = optional_bytes 129 r.request_value in
@@ -45,7 +53,11 @@ extended_request_written r range small =
     subst (IsExtendedRequest r) whole (record {
       rest = b ++ [];
       first = tagged_text 128 r.request_name (b ++ []) (omega arith) range (inner 128 r.request_name (left a b small));
-      next = record { rest = []; first = octets_or_none 129 r.request_value [] (omega arith) (right a b small) tt; next = none };
+      next = record {
+        rest = [];
+        first = octets_or_none 129 r.request_value [] (omega arith) (right a b small) tt;
+        next = none;
+      };
     })
 
 -- ---- abandons

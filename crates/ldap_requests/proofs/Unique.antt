@@ -60,9 +60,14 @@ target_same v w e0 e1 e2 =
 pub target_unique : IsUnique target_part
 target_unique v w o x y p q =
     let s = step text_part (text_unique 4) _ v.base w.base o p.rest p.first q in
-    let t = step (number_part 10 4) (number_unique 10 4) _ (scope_number v.scope) (scope_number w.scope) p.rest p.next.rest p.next.first s.next in
+    let t = step (number_part 10 4) (number_unique 10 4) _ (scope_number v.scope) (scope_number w.scope) p.rest
+    p.next.rest p.next.first s.next in
     let u = number_unique 10 4 (deref_number v.deref) (deref_number w.deref) p.next.rest x y p.next.next t.next in
-    record { value = target_same v w s.value (scope_same v.scope w.scope t.value) (deref_same v.deref w.deref u.value); rest = u.rest }
+    record {
+      value = target_same v w s.value (scope_same v.scope w.scope t.value)
+          (deref_same v.deref w.deref u.value);
+      rest = u.rest;
+    }
 
 pub record Bounds : Type 0 where
   pub size : ℕ
@@ -81,7 +86,8 @@ bounds_same v w e0 e1 e2 =
 pub bounds_unique : IsUnique bounds_part
 bounds_unique v w o x y p q =
     let s = step (number_part 2 (2 ^ 31)) (number_unique 2 (2 ^ 31)) _ v.size w.size o p.rest p.first q in
-    let t = step (number_part 2 (2 ^ 31)) (number_unique 2 (2 ^ 31)) _ v.time w.time p.rest p.next.rest p.next.first s.next in
+    let t = step (number_part 2 (2 ^ 31)) (number_unique 2 (2 ^ 31)) _ v.time w.time p.rest p.next.rest p.next.first
+    s.next in
     let u = flag_unique 1 v.types_only w.types_only p.next.rest x y p.next.next t.next in
     record { value = bounds_same v w s.value t.value u.value; rest = u.rest }
 
@@ -96,22 +102,115 @@ target_of s = record { base = s.base; scope = s.scope; deref = s.deref_aliases }
 abbrev pub bounds_of : SearchRequestValue → Bounds
 bounds_of s = record { size = s.size_limit; time = s.time_limit; types_only = s.types_only }
 
-search_same : (v w : SearchRequestValue) → v.base ≡ w.base → v.scope ≡ w.scope → v.deref_aliases ≡ w.deref_aliases → v.size_limit ≡ w.size_limit → v.time_limit ≡ w.time_limit → v.types_only ≡ w.types_only → v.filter ≡ w.filter → v.attributes ≡ w.attributes → v ≡ w
+search_same : (v w : SearchRequestValue) → v.base ≡ w.base → v.scope ≡ w.scope → v.deref_aliases ≡ w.deref_aliases →
+    v.size_limit ≡ w.size_limit → v.time_limit ≡ w.time_limit → v.types_only ≡ w.types_only → v.filter ≡ w.filter →
+    v.attributes ≡ w.attributes → v ≡ w
 search_same v w e0 e1 e2 e3 e4 e5 e6 e7 =
-    ap (λ (x : List ℕ). let r : SearchRequestValue = record { base = x; scope = v.scope; deref_aliases = v.deref_aliases; size_limit = v.size_limit; time_limit = v.time_limit; types_only = v.types_only; filter = v.filter; attributes = v.attributes } in r) e0
-    ∙ ap (λ (x : Scope). let r : SearchRequestValue = record { base = w.base; scope = x; deref_aliases = v.deref_aliases; size_limit = v.size_limit; time_limit = v.time_limit; types_only = v.types_only; filter = v.filter; attributes = v.attributes } in r) e1
-    ∙ ap (λ (x : DerefAliases). let r : SearchRequestValue = record { base = w.base; scope = w.scope; deref_aliases = x; size_limit = v.size_limit; time_limit = v.time_limit; types_only = v.types_only; filter = v.filter; attributes = v.attributes } in r) e2
-    ∙ ap (λ (x : ℕ). let r : SearchRequestValue = record { base = w.base; scope = w.scope; deref_aliases = w.deref_aliases; size_limit = x; time_limit = v.time_limit; types_only = v.types_only; filter = v.filter; attributes = v.attributes } in r) e3
-    ∙ ap (λ (x : ℕ). let r : SearchRequestValue = record { base = w.base; scope = w.scope; deref_aliases = w.deref_aliases; size_limit = w.size_limit; time_limit = x; types_only = v.types_only; filter = v.filter; attributes = v.attributes } in r) e4
-    ∙ ap (λ (x : Bool). let r : SearchRequestValue = record { base = w.base; scope = w.scope; deref_aliases = w.deref_aliases; size_limit = w.size_limit; time_limit = w.time_limit; types_only = x; filter = v.filter; attributes = v.attributes } in r) e5
-    ∙ ap (λ (x : Tree). let r : SearchRequestValue = record { base = w.base; scope = w.scope; deref_aliases = w.deref_aliases; size_limit = w.size_limit; time_limit = w.time_limit; types_only = w.types_only; filter = x; attributes = v.attributes } in r) e6
-    ∙ ap (λ (x : List (List ℕ)). let r : SearchRequestValue = record { base = w.base; scope = w.scope; deref_aliases = w.deref_aliases; size_limit = w.size_limit; time_limit = w.time_limit; types_only = w.types_only; filter = w.filter; attributes = x } in r) e7
+    ap (λ (x : List ℕ). let r : SearchRequestValue = record {
+      base = x;
+      scope = v.scope;
+      deref_aliases =
+          v.deref_aliases;
+      size_limit = v.size_limit;
+      time_limit = v.time_limit;
+      types_only = v.types_only;
+      filter =
+          v.filter;
+      attributes = v.attributes;
+    } in r) e0
+    ∙ ap (λ (x : Scope). let r : SearchRequestValue = record {
+      base = w.base;
+      scope = x;
+      deref_aliases =
+          v.deref_aliases;
+      size_limit = v.size_limit;
+      time_limit = v.time_limit;
+      types_only = v.types_only;
+      filter =
+          v.filter;
+      attributes = v.attributes;
+    } in r) e1
+    ∙ ap (λ (x : DerefAliases). let r : SearchRequestValue = record {
+      base = w.base;
+      scope = w.scope;
+      deref_aliases =
+          x;
+      size_limit = v.size_limit;
+      time_limit = v.time_limit;
+      types_only = v.types_only;
+      filter =
+          v.filter;
+      attributes = v.attributes;
+    } in r) e2
+    ∙ ap (λ (x : ℕ). let r : SearchRequestValue = record {
+      base = w.base;
+      scope = w.scope;
+      deref_aliases =
+          w.deref_aliases;
+      size_limit = x;
+      time_limit = v.time_limit;
+      types_only = v.types_only;
+      filter =
+          v.filter;
+      attributes = v.attributes;
+    } in r) e3
+    ∙ ap (λ (x : ℕ). let r : SearchRequestValue = record {
+      base = w.base;
+      scope = w.scope;
+      deref_aliases =
+          w.deref_aliases;
+      size_limit = w.size_limit;
+      time_limit = x;
+      types_only = v.types_only;
+      filter =
+          v.filter;
+      attributes = v.attributes;
+    } in r) e4
+    ∙ ap (λ (x : Bool). let r : SearchRequestValue = record {
+      base = w.base;
+      scope = w.scope;
+      deref_aliases =
+          w.deref_aliases;
+      size_limit = w.size_limit;
+      time_limit = w.time_limit;
+      types_only = x;
+      filter =
+          v.filter;
+      attributes = v.attributes;
+    } in r) e5
+    ∙ ap (λ (x : Tree). let r : SearchRequestValue = record {
+      base = w.base;
+      scope = w.scope;
+      deref_aliases =
+          w.deref_aliases;
+      size_limit = w.size_limit;
+      time_limit = w.time_limit;
+      types_only = w.types_only;
+      filter =
+          x;
+      attributes = v.attributes;
+    } in r) e6
+    ∙ ap (λ (x : List (List ℕ)). let r : SearchRequestValue = record {
+      base = w.base;
+      scope = w.scope;
+      deref_aliases =
+          w.deref_aliases;
+      size_limit = w.size_limit;
+      time_limit = w.time_limit;
+      types_only = w.types_only;
+      filter =
+          w.filter;
+      attributes = x;
+    } in r) e7
 
 pub search_one : IsOneValue IsSearchRequest
 search_one v w o p q =
     let s = step target_part target_unique _ (target_of v) (target_of w) o p.rest p.first q in
     let t = step bounds_part bounds_unique _ (bounds_of v) (bounds_of w) p.rest p.next.rest p.next.first s.next in
     let u = step HasFilter filter_unique _ v.filter w.filter p.next.rest p.next.next.rest p.next.next.first t.next in
-    let r = step (texts_part 48) (texts_part_unique 48) _ v.attributes w.attributes p.next.next.rest p.next.next.next.rest p.next.next.next.first u.next in
-    search_same v w (ap (λ (z : Target). z.base) s.value) (ap (λ (z : Target). z.scope) s.value) (ap (λ (z : Target). z.deref) s.value)
-    (ap (λ (z : Bounds). z.size) t.value) (ap (λ (z : Bounds). z.time) t.value) (ap (λ (z : Bounds). z.types_only) t.value) u.value r.value
+    let r = step (texts_part 48) (texts_part_unique 48) _ v.attributes w.attributes p.next.next.rest
+    p.next.next.next.rest p.next.next.next.first u.next in
+    search_same v w (ap (λ (z : Target). z.base) s.value) (ap (λ (z : Target). z.scope) s.value)
+    (ap (λ (z : Target). z.deref) s.value)
+    (ap (λ (z : Bounds). z.size) t.value) (ap (λ (z : Bounds). z.time) t.value) (ap (λ (z : Bounds). z.types_only)
+    t.value) u.value r.value

@@ -36,7 +36,12 @@ authentication_view (Sasl s) = sasl (sasl_view s)
 
 -- the value of a bind
 abbrev pub bind_view : BindRequest → BindRequestValue
-bind_view b = record { version = b.version; name = string_bytes b.name; authentication = authentication_view b.authentication }
+bind_view b = record {
+  version = b.version;
+  name = string_bytes b.name;
+  authentication = authentication_view
+      b.authentication;
+}
 
 -- the value of an assertion
 abbrev pub ava_view : AttributeValueAssertion → AssertionValue
@@ -48,4 +53,8 @@ compare_view k = record { entry = string_bytes k.entry; ava = ava_view k.ava }
 
 -- the value of an extended request
 abbrev pub extended_request_view : ExtendedRequest → ExtendedRequestValue
-extended_request_view r = record { request_name = string_bytes r.request_name; request_value = option_map (λ v. v.items) r.request_value }
+extended_request_view r = record {
+  request_name = string_bytes r.request_name;
+  request_value =
+      option_map (λ v. v.items) r.request_value;
+}

@@ -12,15 +12,18 @@ use Rattle.ldap_filter.specs.ldap_fields.Written.{number_bytes, flag_octets, opt
 
 -- baseObject, scope, derefAliases
 abbrev pub target_bytes : SearchRequestValue → List ℕ
-target_bytes s = element_bytes 4 s.base ++ number_bytes 10 (scope_number s.scope) ++ number_bytes 10 (deref_number s.deref_aliases)
+target_bytes s = element_bytes 4 s.base ++ number_bytes 10 (scope_number s.scope) ++ number_bytes 10
+    (deref_number s.deref_aliases)
 
 -- sizeLimit, timeLimit, typesOnly
 abbrev pub bounds_bytes : SearchRequestValue → List ℕ
-bounds_bytes s = number_bytes 2 s.size_limit ++ number_bytes 2 s.time_limit ++ element_bytes 1 (flag_octets s.types_only)
+bounds_bytes s = number_bytes 2 s.size_limit ++ number_bytes 2 s.time_limit ++ element_bytes 1
+    (flag_octets s.types_only)
 
 -- the content of a search request
 abbrev pub search_content : SearchRequestValue → List ℕ
-search_content s = target_bytes s ++ bounds_bytes s ++ filter_bytes s.filter ++ element_bytes 48 (row_bytes (element_bytes 4) s.attributes)
+search_content s = target_bytes s ++ bounds_bytes s ++ filter_bytes s.filter ++ element_bytes 48
+    (row_bytes (element_bytes 4) s.attributes)
 
 -- texts are UTF-8, and numbers at most 2147483647
 pub record IsSearchInRange (s : SearchRequestValue) : Type 0 where
@@ -41,7 +44,8 @@ authentication_bytes (sasl s) = element_bytes 163 (sasl_content s)
 
 -- the content of a bind
 abbrev pub bind_content : BindRequestValue → List ℕ
-bind_content b = element_bytes 2 (integer_octets b.version) ++ element_bytes 4 b.name ++ authentication_bytes b.authentication
+bind_content b = element_bytes 2 (integer_octets b.version) ++ element_bytes 4 b.name ++ authentication_bytes
+    b.authentication
 
 -- the mechanism is UTF-8
 abbrev pub IsAuthenticationInRange : AuthenticationValue → Type 0

@@ -14,7 +14,8 @@ entry_content e = element_bytes 4 e.object_name ++ element_bytes 48 (row_bytes a
 
 -- the content of an extended response
 abbrev pub extended_content : ExtendedResponseValue → List ℕ
-extended_content r = result_content r.result ++ optional_bytes 138 r.response_name ++ optional_bytes 139 r.response_value
+extended_content r = result_content r.result ++ optional_bytes 138 r.response_name ++ optional_bytes 139
+    r.response_value
 
 -- names are UTF-8
 abbrev pub IsEntryInRange : SearchResultEntryValue → Type 0

@@ -24,9 +24,11 @@ pub and_two : (a b : Bool) → (a && b) ≡ true → b ≡ true
 and_two true b h = h
 and_two false b h = cc
 
-ends_from : (ts xs : List TypeModel) (i t : ℕ) → are_loopless ts xs i ≡ true → ((u : ℕ) → length xs ≤ u → ends_within (length ts) ts (i + u) ≡ true) → ends_within (length ts) ts (i + t) ≡ true
+ends_from : (ts xs : List TypeModel) (i t : ℕ) → are_loopless ts xs i ≡ true →
+    ((u : ℕ) → length xs ≤ u → ends_within (length ts) ts (i + u) ≡ true) → ends_within (length ts) ts (i + t) ≡ true
 ends_from ts [] i t h past = past t (omega arith)
-ends_from ts (x ∷ xs) i zero h past = ap (ends_within (length ts) ts) (omega arith) ∙ and_one (ends_within (length ts) ts i) (are_loopless ts xs (i + 1)) h
+ends_from ts (x ∷ xs) i zero h past = ap (ends_within (length ts) ts) (omega arith)
+    ∙ and_one (ends_within (length ts) ts i) (are_loopless ts xs (i + 1)) h
 ends_from ts (x ∷ xs) i (suc t) h past =
     ap (ends_within (length ts) ts) (omega arith)
     ∙ ends_from ts xs (i + 1) t (and_two (ends_within (length ts) ts i) (are_loopless ts xs (i + 1)) h)
@@ -54,10 +56,13 @@ false_true h = cc
 itself_or : (s : SchemaModel) (a b : ℕ) → nat_eq a b ≡ true → IsUnder s a b
 itself_or s a b h = subst (λ (x : ℕ). IsUnder s a x) (same_number a b h) is_itself
 
-along_step : (s : SchemaModel) (k a b : ℕ) → ((u : ℕ) → list_any (λ u. nat_eq u b) (superiors k s.types u) ≡ true → IsUnder s u b) → (o : Option ℕ) → superior_of s.types a ≡ o → list_any (λ u. nat_eq u b) (led o (λ u. superiors k s.types u)) ≡ true → IsUnder s a b
+along_step : (s : SchemaModel) (k a b : ℕ) → ((u : ℕ) → list_any (λ u. nat_eq u b) (superiors k s.types u) ≡ true →
+    IsUnder s u b) → (o : Option ℕ) → superior_of s.types a ≡ o → list_any (λ u. nat_eq u b)
+    (led o (λ u. superiors k s.types u)) ≡ true → IsUnder s a b
 along_step s k a b further None e h = absurd (false_true h)
 along_step s k a b further (Some u) e h =
-    goes_up u e (or_cases (nat_eq u b) (list_any (λ u. nat_eq u b) (superiors k s.types u)) h (itself_or s u b) (further u))
+    goes_up u e (or_cases (nat_eq u b) (list_any (λ u. nat_eq u b) (superiors k s.types u)) h (itself_or s u b)
+    (further u))
 
 along_chain : (s : SchemaModel) (k a b : ℕ) → list_any (λ u. nat_eq u b) (superiors k s.types a) ≡ true → IsUnder s a b
 along_chain s zero a b h = absurd (false_true h)
@@ -65,7 +70,8 @@ along_chain s (suc k) a b h = along_step s k a b (λ u g. along_chain s k u b g)
 
 pub chain_from_walk : (s : SchemaModel) (a b : ℕ) → is_under s a b ≡ true → IsUnder s a b
 chain_from_walk s a b h =
-    or_cases (nat_eq a b) (list_any (λ u. nat_eq u b) (superiors (length s.types) s.types a)) h (itself_or s a b) (along_chain s (length s.types) a b)
+    or_cases (nat_eq a b) (list_any (λ u. nat_eq u b) (superiors (length s.types) s.types a)) h (itself_or s a b)
+    (along_chain s (length s.types) a b)
 
 no_step : (o : Option ℕ) (u : ℕ) → o ≡ Some u → if_led o (λ u. false) ≡ true → ⊥
 no_step o u e h = let z : false ≡ true = rw e at h in cc
@@ -73,23 +79,28 @@ no_step o u e h = let z : false ≡ true = rw e at h in cc
 first_same : (a : ℕ) (b : Bool) → (nat_eq a a || b) ≡ true
 first_same a b = grind (arith, nat_tests)
 
-climbed : (s : SchemaModel) (a b k : ℕ) → IsUnder s a b → ends_within k s.types a ≡ true → (nat_eq a b || list_any (λ u. nat_eq u b) (superiors k s.types a)) ≡ true
+climbed : (s : SchemaModel) (a b k : ℕ) → IsUnder s a b → ends_within k s.types a ≡ true →
+    (nat_eq a b || list_any (λ u. nat_eq u b) (superiors k s.types a)) ≡ true
 climbed s a b k is_itself h = first_same a _
 climbed s a b zero (goes_up u e rest) h = absurd (no_step (superior_of s.types a) u e h)
 climbed s a b (suc k) (goes_up u e rest) h =
     or_second (nat_eq a b) _ (ap (λ (o : Option ℕ). list_any (λ u. nat_eq u b) (led o (λ u. superiors k s.types u))) e
     ∙ climbed s u b k rest (sym (ap (λ (o : Option ℕ). if_led o (λ u. ends_within k s.types u)) e) ∙ h))
 
-pub walk_from_chain : (s : SchemaModel) (a b : ℕ) → are_loopless s.types s.types 0 ≡ true → IsUnder s a b → is_under s a b ≡ true
+pub walk_from_chain : (s : SchemaModel) (a b : ℕ) → are_loopless s.types s.types 0 ≡ true → IsUnder s a b →
+    is_under s a b ≡ true
 walk_from_chain s a b h u = climbed s a b (length s.types) u (all_end s.types a h)
 
 pub under_same : (s : SchemaModel) (a b : ℕ) → true ≡ nat_eq a b → is_under s a b ≡ true
 under_same s a b h = rw (sym h) refl
 
-pub under_other : (types : List TypeModel) (a b : ℕ) (r : Bool) → false ≡ nat_eq a b → r ≡ list_any (λ t. nat_eq t b) (superiors (length types) types a)
+pub under_other : (types : List TypeModel) (a b : ℕ) (r : Bool) → false ≡ nat_eq a b → r ≡ list_any (λ t. nat_eq t b)
+    (superiors (length types) types a)
     → r ≡ (nat_eq a b || list_any (λ u. nat_eq u b) (superiors (length types) types a))
-under_other types a b r e rs = rs ∙ ap (λ (x : Bool). x || list_any (λ (u : ℕ). nat_eq u b) (superiors (length types) types a)) e
+under_other types a b r e rs = rs ∙ ap (λ (x : Bool). x || list_any (λ (u : ℕ). nat_eq u b)
+    (superiors (length types) types a)) e
 
 -- a test that says what the walk finds, as the chain
-pub as_chain : (s : SchemaModel) (a b : ℕ) (r : Bool) → are_loopless s.types s.types 0 ≡ true → r ≡ is_under s a b → IsTrue r ↔ IsUnder s a b
+pub as_chain : (s : SchemaModel) (a b : ℕ) (r : Bool) → are_loopless s.types s.types 0 ≡ true → r ≡ is_under s a b →
+    IsTrue r ↔ IsUnder s a b
 as_chain s a b r h e = (λ t. chain_from_walk s a b (sym e ∙ t), λ u. e ∙ walk_from_chain s a b h u)

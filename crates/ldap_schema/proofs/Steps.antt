@@ -4,24 +4,30 @@ use Rattle.std.specs.List.{list_any, position_from}
 use Rattle.ldap_schema.specs.Schema.{TypeModel, superior_of, superiors}
 pub use Rattle.ldap_words.proofs.NumbersKept.{opened}
 
-pub found_here : {A : Type 0} (p : A → Bool) (xs : List A) (i : ℕ) (x : A) → i < length xs → x ≡ get_or xs i x → p x ≡ true → position_from p i (drop i xs) ≡ Some i
+pub found_here : {A : Type 0} (p : A → Bool) (xs : List A) (i : ℕ) (x : A) → i < length xs → x ≡ get_or xs i x →
+    p x ≡ true → position_from p i (drop i xs) ≡ Some i
 found_here p xs i x lt is h = rw (opened xs i x lt is, h) refl
 
-pub found_later : {A : Type 0} (p : A → Bool) (xs : List A) (i : ℕ) (x : A) → i < length xs → x ≡ get_or xs i x → p x ≡ false → position_from p i (drop i xs) ≡ position_from p (i + 1) (drop (i + 1) xs)
+pub found_later : {A : Type 0} (p : A → Bool) (xs : List A) (i : ℕ) (x : A) → i < length xs → x ≡ get_or xs i x →
+    p x ≡ false → position_from p i (drop i xs) ≡ position_from p (i + 1) (drop (i + 1) xs)
 found_later p xs i x lt is h = rw (opened xs i x lt is, h) refl
 
-pub list_any-map : {A B : Type 0} (p : B → Bool) (f : A → B) (xs : List A) → list_any p (map f xs) ≡ list_any (λ x. p (f x)) xs
+pub list_any-map : {A B : Type 0} (p : B → Bool) (f : A → B) (xs : List A) → list_any p (map f xs) ≡
+    list_any (λ x. p (f x)) xs
 list_any-map p f [] = refl
 list_any-map p f (x ∷ xs) = rw (list_any-map p f xs) refl
 
-pub pushed_out : {A C : Type 0} (f : A → C) (old : List A) (x : A) (t : List C) → map f (old ++ x ∷ []) ++ t ≡ map f old ++ f x ∷ t
+pub pushed_out : {A C : Type 0} (f : A → C) (old : List A) (x : A) (t : List C) → map f (old ++ x ∷ []) ++ t ≡
+    map f old ++ f x ∷ t
 pushed_out f [] x t = refl
 pushed_out f (o ∷ old) x t = ap (λ (z : List _). f o ∷ z) (pushed_out f old x t)
 
-pub one_up : (m k : ℕ) (ts : List TypeModel) (t u : ℕ) → m ≡ suc k → superior_of ts t ≡ Some u → superiors m ts t ≡ u ∷ superiors k ts u
+pub one_up : (m k : ℕ) (ts : List TypeModel) (t u : ℕ) → m ≡ suc k → superior_of ts t ≡ Some u → superiors m ts t ≡
+    u ∷ superiors k ts u
 one_up m k ts t u e is = rw (e, is) refl
 
-pub step_up : (n i : ℕ) (ts : List TypeModel) (t u : ℕ) (old new all : List ℕ) → i < n → superior_of ts t ≡ Some u → new ≡ old ++ u ∷ [] → old ++ superiors (n - i) ts t ≡ all → new ++ superiors (n - (i + 1)) ts u ≡ all
+pub step_up : (n i : ℕ) (ts : List TypeModel) (t u : ℕ) (old new all : List ℕ) → i < n → superior_of ts t ≡ Some u →
+    new ≡ old ++ u ∷ [] → old ++ superiors (n - i) ts t ≡ all → new ++ superiors (n - (i + 1)) ts u ≡ all
 step_up n i ts t u old new all lt is pushed so_far =
     ap (λ (z : List ℕ). z ++ superiors (n - (i + 1)) ts u) pushed
     ∙ append_assoc old (u ∷ []) (superiors (n - (i + 1)) ts u)
@@ -29,7 +35,8 @@ step_up n i ts t u old new all lt is pushed so_far =
     ∙ so_far
 
 -- what is sought is not the type one step up: it is sought from there on
-pub sought_up : (n i : ℕ) (ts : List TypeModel) (t u b : ℕ) (whole : Bool) → i < n → superior_of ts t ≡ Some u → nat_eq u b ≡ false → list_any (λ x. nat_eq x b) (superiors (n - i) ts t) ≡ whole
+pub sought_up : (n i : ℕ) (ts : List TypeModel) (t u b : ℕ) (whole : Bool) → i < n → superior_of ts t ≡ Some u →
+    nat_eq u b ≡ false → list_any (λ x. nat_eq x b) (superiors (n - i) ts t) ≡ whole
     → list_any (λ x. nat_eq x b) (superiors (n - (i + 1)) ts u) ≡ whole
 sought_up n i ts t u b whole lt is other so_far =
     sym (ap (λ (z : Bool). z || list_any (λ (x : ℕ). nat_eq x b) (superiors (n - (i + 1)) ts u)) other)

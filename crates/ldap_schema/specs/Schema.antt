@@ -20,7 +20,8 @@ pub record TypeModel : Type 0 where
   pub substrings : Option Rule
   pub is_single_value : Bool
 
--- An object class: its superclasses by number of class, its required and allowed types by number of type (RFC 4512 4.1.1).
+-- An object class: its superclasses by number of class, its required and allowed types by number of type (RFC 4512
+-- 4.1.1).
 pub record ClassModel : Type 0 where
   pub oid : List ℕ
   pub names : List (List ℕ)

@@ -29,13 +29,16 @@ gone_on (Some c) have next = next c
 -- in so many steps, for each class from a place on, its direct superclasses that are missing are added at the end
 abbrev pub filled_from : ℕ → List ClassModel → ℕ → List ℕ → List ℕ
 filled_from zero classes i have = have
-filled_from (suc k) classes i have = gone_on (slice_get have i) have (λ c. filled_from k classes (i + 1) (with_missing have (direct_superclasses classes c)))
+filled_from (suc k) classes i have = gone_on (slice_get have i) have (λ c. filled_from k classes (i + 1)
+    (with_missing have (direct_superclasses classes c)))
 
--- these classes, and behind them their superclasses that are missing, in a step for each of these and of all classes at most
+-- these classes, and behind them their superclasses that are missing, in a step for each of these and of all classes at
+-- most
 abbrev pub filled : List ClassModel → List ℕ → List ℕ
 filled classes cs = filled_from (length cs + length classes) classes 0 cs
 
--- These classes, and at the end their superclasses that are missing: for each class in turn, added ones included, its direct
+-- These classes, and at the end their superclasses that are missing: for each class in turn, added ones included, its
+-- direct
 -- superclasses in the order written (RFC 4512 2.4).
 abbrev pub with_superclasses : SchemaModel → List ℕ → List ℕ
 with_superclasses s cs = filled s.classes cs
@@ -51,7 +54,8 @@ is_subclass s a b = nat_eq a b || is_among (with_superclasses s (a ∷ [])) b
 -- the chain of superclasses from one class to another
 pub data IsSubclass (s : SchemaModel) : ℕ → ℕ → Type 0 where
   is_itself : {a : ℕ} → IsSubclass s a a
-  goes_up : {a c : ℕ} (b : ℕ) → is_among (direct_superclasses s.classes a) b ≡ true → IsSubclass s b c → IsSubclass s a c
+  goes_up : {a c : ℕ} (b : ℕ) → is_among (direct_superclasses s.classes a) b ≡ true → IsSubclass s b c →
+      IsSubclass s a c
 
 -- whether the direct superclasses of a class are of so many classes
 abbrev pub has_known_superclasses : ℕ → ClassModel → Bool

@@ -1,4 +1,5 @@
--- Conversations that go on message by message. Facts on definitions come in and go out; no value of the program is here.
+-- Conversations that go on message by message. Facts on definitions come in and go out; no value of the program is
+-- here.
 use Rattle.std.proofs.Common.{◌≡◌, inl, inr, ℕ, List, [], ◌∷◌, ◌++◌, take, drop, None, refl, ap, sym, subst, ◌∙◌, append_assoc, take-append-drop}
 use Rattle.session_handler.specs.ldap_msg.Messages.{MessageValue}
 use Rattle.ldap_framer.specs.Framed.{ending_of}
@@ -27,42 +28,57 @@ use Rattle.ldap_session.proofs.Progressed.{session_more, handed_more, talks_join
 
 -- what is said, where octets are kept behind those that are unsent
 said_more : (given old more new said : List ℕ) → new ≡ old ++ more → given ++ old ≡ said → given ++ new ≡ said ++ more
-said_more given old more new said is was = ap (λ (l : List ℕ). given ++ l) is ∙ sym (append_assoc given old more) ∙ ap (λ (l : List ℕ). l ++ more) was
+said_more given old more new said is was = ap (λ (l : List ℕ). given ++ l) is ∙ sym (append_assoc given old more)
+    ∙ ap (λ (l : List ℕ). l ++ more) was
 
-said_all : (given old more new : List ℕ) (rs qs : List MessageValue) → new ≡ old ++ more → given ++ old ≡ octets_of rs → more ≡ octets_of qs → given ++ new ≡ octets_of (rs ++ qs)
-said_all given old more new rs qs is was whose = said_more given old more new (octets_of rs) is was ∙ ap (λ (l : List ℕ). octets_of rs ++ l) whose ∙ sym (octets_append rs qs)
+said_all : (given old more new : List ℕ) (rs qs : List MessageValue) → new ≡ old ++ more → given ++ old ≡
+    octets_of rs → more ≡ octets_of qs → given ++ new ≡ octets_of (rs ++ qs)
+said_all given old more new rs qs is was whose = said_more given old more new (octets_of rs) is was
+    ∙ ap (λ (l : List ℕ). octets_of rs ++ l) whose ∙ sym (octets_append rs qs)
 
-said_front : (given old more new : List ℕ) (rs qs : List MessageValue) → new ≡ old ++ more → given ++ old ≡ octets_of rs → IsFront more (octets_of qs) → IsFront (given ++ new) (octets_of (rs ++ qs))
+said_front : (given old more new : List ℕ) (rs qs : List MessageValue) → new ≡ old ++ more → given ++ old ≡
+    octets_of rs → IsFront more (octets_of qs) → IsFront (given ++ new) (octets_of (rs ++ qs))
 said_front given old more new rs qs is was front =
     subst (λ (l : List ℕ). IsFront l (octets_of (rs ++ qs))) (sym (said_more given old more new (given ++ old) is refl))
     (front_of octets_of octets_append rs qs (given ++ old) more was front)
 
-module _ {D T : Type 0} (allows : D → Exchange T → D → Type 0) (c : ConfigValue) (vs : List (D × D)) (v w : ConversationValue) (d e : D) (heard given : List ℕ) (st : Stands allows c vs v heard given) where
+module _ {D T : Type 0} (allows : D → Exchange T → D → Type 0) (c : ConfigValue) (vs : List (D × D))
+    (v w : ConversationValue) (d e : D) (heard given : List ℕ) (st : Stands allows c vs v heard given) where
   stands_more : TakesTurn allows c v w d e → Stands allows c (vs ++ (d, e) ∷ []) w heard given
   stands_more t = record {
     handed = st.handed ++ t.takes.taken ∷ [];
     talk = st.talk ++ t.takes.talk;
     responses = st.responses ++ t.reaction.responses;
-    seen = handed_more v.session.framed w.session.framed heard st.handed t.takes.taken t.takes.ready t.takes.rest t.takes.fault st.seen;
+    seen = handed_more v.session.framed w.session.framed heard st.handed t.takes.taken t.takes.ready t.takes.rest
+        t.takes.fault st.seen;
     visited =
-        subst (λ (n : Next). Visited allows c (st.handed ++ t.takes.taken ∷ []) (vs ++ (d, e) ∷ []) (st.talk ++ t.takes.talk) w.session.state (st.responses ++ t.reaction.responses) n) t.goes
-        (subst (λ (x : State). Visited allows c (st.handed ++ t.takes.taken ∷ []) (vs ++ (d, e) ∷ []) (st.talk ++ t.takes.talk) x (st.responses ++ t.reaction.responses) t.reaction.next) (sym t.state)
+        subst (λ (n : Next). Visited allows c (st.handed ++ t.takes.taken ∷ []) (vs ++ (d, e) ∷ [])
+        (st.talk ++ t.takes.talk) w.session.state (st.responses ++ t.reaction.responses) n) t.goes
+        (subst (λ (x : State). Visited allows c (st.handed ++ t.takes.taken ∷ []) (vs ++ (d, e) ∷ [])
+        (st.talk ++ t.takes.talk) x (st.responses ++ t.reaction.responses) t.reaction.next) (sym t.state)
         (visits.one_more st.visited t.takes.turn t.takes.along));
-    said = said_all given v.unsent (octets_of t.reaction.responses) w.unsent st.responses t.reaction.responses t.unsent st.said refl;
+    said = said_all given v.unsent (octets_of t.reaction.responses) w.unsent st.responses t.reaction.responses
+        t.unsent st.said refl;
     goes_on = t.end_is;
   }
 
-  last_said : (end : SessionEnd) (next : Next) (qs : List MessageValue) (more : List ℕ) (left : List MessageValue) (ending : _) → w.unsent ≡ v.unsent ++ more → IsLast end next (octets_of qs) more →
+  last_said : (end : SessionEnd) (next : Next) (qs : List MessageValue) (more : List ℕ) (left : List MessageValue)
+      (ending : _) → w.unsent ≡ v.unsent ++ more → IsLast end next (octets_of qs) more →
       IsEnd octets_of end next left ending (st.responses ++ qs) (given ++ w.unsent)
-  last_said Unbound next qs more left ending is last = (last.0, said_all given v.unsent more w.unsent st.responses qs is st.said last.1)
-  last_said Disconnected next qs more left ending is last = inl (last.0, said_all given v.unsent more w.unsent st.responses qs is st.said last.1)
-  last_said WriteFailed next qs more left ending is last = inl (said_front given v.unsent more w.unsent st.responses qs is st.said last)
-  last_said NoMemory next qs more left ending is last = inl (said_front given v.unsent more w.unsent st.responses qs is st.said last)
+  last_said Unbound next qs more left ending is last =
+      (last.0, said_all given v.unsent more w.unsent st.responses qs is st.said last.1)
+  last_said Disconnected next qs more left ending is last =
+      inl (last.0, said_all given v.unsent more w.unsent st.responses qs is st.said last.1)
+  last_said WriteFailed next qs more left ending is last = inl (said_front given v.unsent more w.unsent st.responses
+      qs is st.said last)
+  last_said NoMemory next qs more left ending is last = inl (said_front given v.unsent more w.unsent st.responses qs
+      is st.said last)
   last_said EndOfInput next qs more left ending is last = absurd last
   last_said Truncated next qs more left ending is last = absurd last
   last_said ReadFailed next qs more left ending is last = absurd last
 
-  over_with : (end : SessionEnd) → TakesLast allows c v w d e end → IsOver allows c (vs ++ (d, e) ∷ []) heard (given ++ w.unsent) end
+  over_with : (end : SessionEnd) → TakesLast allows c v w d e end → IsOver allows c (vs ++ (d, e) ∷ []) heard
+      (given ++ w.unsent) end
   over_with end t = record {
     handed = st.handed ++ t.takes.taken ∷ [];
     more = w.session.framed.ready;
@@ -71,23 +87,39 @@ module _ {D T : Type 0} (allows : D → Exchange T → D → Type 0) (c : Config
     state = t.reaction.state;
     responses = st.responses ++ t.reaction.responses;
     next = t.reaction.next;
-    reads = handed_more v.session.framed w.session.framed heard st.handed t.takes.taken t.takes.ready t.takes.rest t.takes.fault st.seen;
+    reads = handed_more v.session.framed w.session.framed heard st.handed t.takes.taken t.takes.ready t.takes.rest
+        t.takes.fault st.seen;
     visited = visits.one_more st.visited t.takes.turn t.takes.along;
-    is_end = last_said end t.reaction.next t.reaction.responses t.ends.more w.session.framed.ready _ t.ends.unsent t.ends.last;
+    is_end = last_said end t.reaction.next t.reaction.responses t.ends.more w.session.framed.ready _ t.ends.unsent
+        t.ends.last;
   }
 
   notice_apart : UnboundNext ≡ DisconnectedNext → ⊥
   notice_apart x = cc
 
-  notice_said : (end : SessionEnd) (more : List ℕ) → v.session.framed.ready ≡ [] → (v.session.framed.fault ≡ None → ⊥) → w.unsent ≡ v.unsent ++ more → IsLast end DisconnectedNext (octets_of (notice ∷ [])) more →
-      IsEnd octets_of end GoesOn v.session.framed.ready (ending_of v.session.framed.fault v.session.framed.rest) st.responses (given ++ w.unsent)
+  notice_said : (end : SessionEnd) (more : List ℕ) → v.session.framed.ready ≡ [] → (v.session.framed.fault ≡ None →
+      ⊥) → w.unsent ≡ v.unsent ++ more → IsLast end DisconnectedNext (octets_of (notice ∷ [])) more →
+      IsEnd octets_of end GoesOn v.session.framed.ready (ending_of v.session.framed.fault v.session.framed.rest)
+      st.responses (given ++ w.unsent)
   notice_said Unbound more none fault is last = absurd (notice_apart (sym last.0))
   notice_said Disconnected more none fault is last =
-      inr ((refl, none, stopped_by v.session.framed.fault v.session.framed.rest fault), said_all given v.unsent more w.unsent st.responses (notice ∷ []) is st.said last.1)
+      inr (
+        (refl, none, stopped_by v.session.framed.fault v.session.framed.rest fault),
+        said_all given v.unsent more
+            w.unsent st.responses (notice ∷ []) is st.said last.1,
+      )
   notice_said WriteFailed more none fault is last =
-      inr ((refl, none, stopped_by v.session.framed.fault v.session.framed.rest fault), said_front given v.unsent more w.unsent st.responses (notice ∷ []) is st.said last)
+      inr (
+        (refl, none, stopped_by v.session.framed.fault v.session.framed.rest fault),
+        said_front given v.unsent more
+            w.unsent st.responses (notice ∷ []) is st.said last,
+      )
   notice_said NoMemory more none fault is last =
-      inr ((refl, none, stopped_by v.session.framed.fault v.session.framed.rest fault), said_front given v.unsent more w.unsent st.responses (notice ∷ []) is st.said last)
+      inr (
+        (refl, none, stopped_by v.session.framed.fault v.session.framed.rest fault),
+        said_front given v.unsent more
+            w.unsent st.responses (notice ∷ []) is st.said last,
+      )
   notice_said EndOfInput more none fault is last = absurd last
   notice_said Truncated more none fault is last = absurd last
   notice_said ReadFailed more none fault is last = absurd last
@@ -117,9 +149,11 @@ module _ {D T : Type 0} (allows : D → Exchange T → D → Type 0) (c : Config
   comes_by (Ends end) (inr n) = (inr (over_here end n, n.idle.untouched), n.ends.end_is)
 
 -- what one step is, it is wherever the conversation stood
-pub continues : {D T : Type 0} (allows : D → Exchange T → D → Type 0) (c : ConfigValue) (v w : ConversationValue) (d e : D) (step : Step) →
+pub continues : {D T : Type 0} (allows : D → Exchange T → D → Type 0) (c : ConfigValue) (v w : ConversationValue)
+    (d e : D) (step : Step) →
     (v.end ≡ None → StepsTo allows c v w d e step) → Continues allows c v w d e step
-continues allows c v w d e step steps vs heard given st = comes_by allows c vs v w d e heard given st step (steps st.goes_on)
+continues allows c v w d e step steps vs heard given st = comes_by allows c vs v w d e heard given st step
+    (steps st.goes_on)
 
 pub begins : {D T : Type 0} (allows : D → Exchange T → D → Type 0) → Begins allows
 begins {D} {T} allows c v fresh = record {
@@ -138,7 +172,8 @@ listens allows c vs v w heard given piece hears st = record {
   talk = st.talk;
   responses = st.responses;
   seen = hears.stream heard st.handed st.seen;
-  visited = subst (λ (x : State). Visited allows c st.handed vs st.talk x st.responses GoesOn) (sym hears.state) st.visited;
+  visited = subst (λ (x : State). Visited allows c st.handed vs st.talk x st.responses GoesOn) (sym hears.state)
+      st.visited;
   said = ap (λ (l : List ℕ). given ++ l) hears.unsent ∙ st.said;
   goes_on = hears.end ∙ st.goes_on;
 }
@@ -150,15 +185,19 @@ speaks allows c vs v heard given count st = record {
   responses = st.responses;
   seen = st.seen;
   visited = st.visited;
-  said = append_assoc given (take count v.unsent) (drop count v.unsent) ∙ ap (λ (l : List ℕ). given ++ l) (take-append-drop count v.unsent) ∙ st.said;
+  said = append_assoc given (take count v.unsent) (drop count v.unsent) ∙ ap (λ (l : List ℕ). given ++ l)
+      (take-append-drop count v.unsent) ∙ st.said;
   goes_on = st.goes_on;
 }
 
-pub one_session : {D T : Type 0} (allows : D → Exchange T → D → Type 0) (c : ConfigValue) (ms : List MessageValue) (vs : List (D × D)) (xs : List (Exchange T)) (s : State) (rs : List MessageValue) (next : Next) →
+pub one_session : {D T : Type 0} (allows : D → Exchange T → D → Type 0) (c : ConfigValue) (ms : List MessageValue)
+    (vs : List (D × D)) (xs : List (Exchange T)) (s : State) (rs : List MessageValue) (next : Next) →
     Visited allows c ms vs xs s rs next → Session c at_first ms xs s rs next
 one_session allows c ms vs xs s rs next visits.none = turns.ends
-one_session allows c ms vs xs s rs next (visits.one_more {ms = before} {visits = earlier} {talk = front} {more = more} {s = t} {rs = said} {m = m} {a = a} visited turn along) =
-    session_more c at_first t before front more said m a (one_session allows c before earlier front t said GoesOn visited) turn
+one_session allows c ms vs xs s rs next (visits.one_more {ms = before} {visits = earlier} {talk = front} {more = more}
+    {s = t} {rs = said} {m = m} {a = a} visited turn along) =
+    session_more c at_first t before front more said m a (one_session allows c before earlier front t said GoesOn
+    visited) turn
 
 no_last : {A : Type 0} (xs : List A) (x : A) → [] ≡ xs ++ x ∷ [] → ⊥
 no_last [] x e = cc
@@ -181,15 +220,21 @@ same_last (a ∷ xs) (b ∷ ys) x y e =
     (ap (λ (z : _). z ∷ xs) first ∙ ap (λ (zs : List _). b ∷ zs) rest.0, rest.1)
 
 -- each visit began where the one before it ended, so the directory went along the whole talk
-one_along : {D T : Type 0} (allows : D → Exchange T → D → Type 0) (c : ConfigValue) (d e : D) (us vs : List (D × D)) (ms : List MessageValue) (xs : List (Exchange T)) (s : State) (rs : List MessageValue) (next : Next) →
+one_along : {D T : Type 0} (allows : D → Exchange T → D → Type 0) (c : ConfigValue) (d e : D) (us vs : List (D × D))
+    (ms : List MessageValue) (xs : List (Exchange T)) (s : State) (rs : List MessageValue) (next : Next) →
     us ≡ vs → IsOne d us e → Visited allows c ms vs xs s rs next → Along allows d xs e
 one_along allows c d e us vs ms xs s rs next same visits.unvisited visits.none = talk.ends
-one_along allows c d e us vs ms xs s rs next same (visits.goes_on {e = m} {f = f} {visits = before} one) visits.none = absurd (no_last before (m, f) (sym same))
-one_along allows c d e us vs ms xs s rs next same visits.unvisited (visits.one_more {visits = earlier} {d = from} {e = to} visited turn along) = absurd (no_last earlier (from, to) same)
-one_along {D} allows c d e us vs ms xs s rs next same (visits.goes_on {e = m} {f = f} {visits = before} one) (visits.one_more {ms = taken} {visits = earlier} {talk = front} {more = more} {s = t} {rs = said} {d = from} {e = to} visited turn along) =
+one_along allows c d e us vs ms xs s rs next same (visits.goes_on {e = m} {f = f} {visits = before} one) visits.none =
+    absurd (no_last before (m, f) (sym same))
+one_along allows c d e us vs ms xs s rs next same visits.unvisited (visits.one_more {visits = earlier} {d = from}
+    {e = to} visited turn along) = absurd (no_last earlier (from, to) same)
+one_along {D} allows c d e us vs ms xs s rs next same (visits.goes_on {e = m} {f = f} {visits = before} one)
+    (visits.one_more {ms = taken} {visits = earlier} {talk = front} {more = more} {s = t} {rs = said} {d = from}
+    {e = to} visited turn along) =
     let is = same_last before earlier (m, f) (from, to) same in
     talks_join allows (one_along allows c d m before earlier taken front t said GoesOn is.0 one visited)
-    (subst (λ (x : D). Along allows m more x) (sym (ap (λ (p : D × D). p.1) is.1)) (subst (λ (x : D). Along allows x more to) (sym (ap (λ (p : D × D). p.0) is.1)) along))
+    (subst (λ (x : D). Along allows m more x) (sym (ap (λ (p : D × D). p.1) is.1))
+    (subst (λ (x : D). Along allows x more to) (sym (ap (λ (p : D × D). p.0) is.1)) along))
 
 pub with_one : {D T : Type 0} (allows : D → Exchange T → D → Type 0) → IsWithOne allows
 with_one allows c d e vs v heard given one st = record {

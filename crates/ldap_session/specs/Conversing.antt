@@ -31,7 +31,8 @@ pub record IsFresh (v : ConversationValue) : Type 0 where
 
 -- a piece of the stream is heard, and nothing else
 pub record Hears (v : ConversationValue) (piece : List ℕ) (w : ConversationValue) : Type 0 where
-  pub stream : (stream : List ℕ) (handed : List MessageValue) → HasSeen v.session.framed stream handed → HasSeen w.session.framed (stream ++ piece) handed
+  pub stream : (stream : List ℕ) (handed : List MessageValue) → HasSeen v.session.framed stream handed →
+      HasSeen w.session.framed (stream ++ piece) handed
   pub state : w.session.state ≡ v.session.state
   pub unsent : w.unsent ≡ v.unsent
   pub end : w.end ≡ v.end
@@ -40,9 +41,11 @@ pub record Hears (v : ConversationValue) (piece : List ℕ) (w : ConversationVal
 abbrev pub sends : ConversationValue → ℕ → ConversationValue
 sends v count = record v { unsent = drop count v.unsent }
 
--- A conversation so far: of the octets heard these messages are served, along these visits. What was given out and what is unsent are,
+-- A conversation so far: of the octets heard these messages are served, along these visits. What was given out and what
+-- is unsent are,
 -- together and in order, the octets of all responses.
-pub record Stands {D T : Type 0} (allows : D → Exchange T → D → Type 0) (c : ConfigValue) (visits : List (D × D)) (v : ConversationValue) (heard given : List ℕ) : Type 0 where
+pub record Stands {D T : Type 0} (allows : D → Exchange T → D → Type 0) (c : ConfigValue) (visits : List (D × D))
+    (v : ConversationValue) (heard given : List ℕ) : Type 0 where
   pub handed : List MessageValue
   pub talk : List (Exchange T)
   pub responses : List MessageValue
@@ -52,7 +55,8 @@ pub record Stands {D T : Type 0} (allows : D → Exchange T → D → Type 0) (c
   pub goes_on : v.end ≡ None
 
 -- A conversation that has ended, and what was said in all.
-pub record IsOver {D T : Type 0} (allows : D → Exchange T → D → Type 0) (c : ConfigValue) (visits : List (D × D)) (heard said : List ℕ) (end : SessionEnd) : Type 0 where
+pub record IsOver {D T : Type 0} (allows : D → Exchange T → D → Type 0) (c : ConfigValue) (visits : List (D × D))
+    (heard said : List ℕ) (end : SessionEnd) : Type 0 where
   pub handed : List MessageValue
   pub more : List MessageValue
   pub ending : Ending
@@ -65,18 +69,24 @@ pub record IsOver {D T : Type 0} (allows : D → Exchange T → D → Type 0) (c
   pub is_end : IsEnd octets_of end next more ending responses said
 
 -- it has ended with a message that this directory served, or where none was served and the directory is as it was
-abbrev pub IsOverAt : {D T : Type 0} → (D → Exchange T → D → Type 0) → ConfigValue → List (D × D) → D → D → List ℕ → List ℕ → SessionEnd → Type 0
-IsOverAt allows c visits d e heard said end = IsOver allows c (visits ++ (d, e) ∷ []) heard said end ⊎ (IsOver allows c visits heard said end × (e ≡ d))
+abbrev pub IsOverAt : {D T : Type 0} → (D → Exchange T → D → Type 0) → ConfigValue → List (D × D) → D → D → List ℕ →
+    List ℕ → SessionEnd → Type 0
+IsOverAt allows c visits d e heard said end = IsOver allows c (visits ++ (d, e) ∷ []) heard said end
+    ⊎ (IsOver allows c visits heard said end × (e ≡ d))
 
 -- What becomes of a conversation by an attempt to answer the next message, of a directory from d to e.
-abbrev pub ComesBy : {D T : Type 0} → (D → Exchange T → D → Type 0) → ConfigValue → List (D × D) → ConversationValue → D → D → List ℕ → List ℕ → Step → Type 0
+abbrev pub ComesBy : {D T : Type 0} → (D → Exchange T → D → Type 0) → ConfigValue → List (D × D) → ConversationValue →
+    D → D → List ℕ → List ℕ → Step → Type 0
 ComesBy allows c visits w d e heard given Awaits = Stands allows c visits w heard given × IsCaughtUp w.session × (e ≡ d)
 ComesBy allows c visits w d e heard given Answered = Stands allows c (visits ++ (d, e) ∷ []) w heard given
-ComesBy allows c visits w d e heard given (Ends end) = IsOverAt allows c visits d e heard (given ++ w.unsent) end × (w.end ≡ Some end)
+ComesBy allows c visits w d e heard given (Ends end) = IsOverAt allows c visits d e heard (given ++ w.unsent) end
+    × (w.end ≡ Some end)
 
 -- Wherever a conversation stood, and whichever directories served it before, it comes to this.
-abbrev pub Continues : {D T : Type 0} → (D → Exchange T → D → Type 0) → ConfigValue → ConversationValue → ConversationValue → D → D → Step → Type 0
-Continues {D} {T} allows c v w d e step = (visits : List (D × D)) (heard given : List ℕ) → Stands allows c visits v heard given → ComesBy allows c visits w d e heard given step
+abbrev pub Continues : {D T : Type 0} → (D → Exchange T → D → Type 0) → ConfigValue → ConversationValue →
+    ConversationValue → D → D → Step → Type 0
+Continues {D} {T} allows c v w d e step = (visits : List (D × D)) (heard given : List ℕ) →
+    Stands allows c visits v heard given → ComesBy allows c visits w d e heard given step
 
 -- what is over stays as it is
 pub record StaysOver {D : Type 0} (v w : ConversationValue) (d e : D) (end : SessionEnd) (step : Step) : Type 0 where
@@ -102,7 +112,8 @@ pub record EndsBy (v w : ConversationValue) (octets : List ℕ) (next : Next) (e
   pub end_is : w.end ≡ Some end
 
 -- the next message is answered
-pub record TakesTurn {D T : Type 0} (allows : D → Exchange T → D → Type 0) (c : ConfigValue) (v w : ConversationValue) (d e : D) : Type 0 where
+pub record TakesTurn {D T : Type 0} (allows : D → Exchange T → D → Type 0) (c : ConfigValue) (v w : ConversationValue)
+    (d e : D) : Type 0 where
   pub reaction : Reaction
   pub takes : TakesNext allows c v.session w.session d e reaction
   pub state : w.session.state ≡ reaction.state
@@ -111,7 +122,8 @@ pub record TakesTurn {D T : Type 0} (allows : D → Exchange T → D → Type 0)
   pub end_is : w.end ≡ None
 
 -- the next message is the last
-pub record TakesLast {D T : Type 0} (allows : D → Exchange T → D → Type 0) (c : ConfigValue) (v w : ConversationValue) (d e : D) (end : SessionEnd) : Type 0 where
+pub record TakesLast {D T : Type 0} (allows : D → Exchange T → D → Type 0) (c : ConfigValue) (v w : ConversationValue)
+    (d e : D) (end : SessionEnd) : Type 0 where
   pub reaction : Reaction
   pub takes : TakesNext allows c v.session w.session d e reaction
   pub ends : EndsBy v w (octets_of reaction.responses) reaction.next end
@@ -123,7 +135,8 @@ pub record GivesNotice {D : Type 0} (v w : ConversationValue) (d e : D) (end : S
   pub ends : EndsBy v w (octets_of (notice ∷ [])) DisconnectedNext end
 
 -- What an attempt to answer the next message is.
-abbrev pub StepsTo : {D T : Type 0} → (D → Exchange T → D → Type 0) → ConfigValue → ConversationValue → ConversationValue → D → D → Step → Type 0
+abbrev pub StepsTo : {D T : Type 0} → (D → Exchange T → D → Type 0) → ConfigValue → ConversationValue →
+    ConversationValue → D → D → Step → Type 0
 StepsTo allows c v w d e Awaits = IsIdle v.session w.session d e × (v.session.framed.fault ≡ None) × (w ≡ v)
 StepsTo allows c v w d e Answered = TakesTurn allows c v w d e
 StepsTo allows c v w d e (Ends end) = TakesLast allows c v w d e end ⊎ GivesNotice v w d e end
@@ -139,10 +152,13 @@ Listens {D} allows = (c : ConfigValue) (visits : List (D × D)) (v w : Conversat
 
 -- What is sent is what was said next: what was given out stays a front of the responses.
 abbrev pub Speaks : {D T : Type 0} → (D → Exchange T → D → Type 0) → Type 0
-Speaks {D} allows = (c : ConfigValue) (visits : List (D × D)) (v : ConversationValue) (heard given : List ℕ) (count : ℕ) →
+Speaks {D} allows = (c : ConfigValue) (visits : List (D × D)) (v : ConversationValue) (heard given : List ℕ)
+    (count : ℕ) →
     Stands allows c visits v heard given → Stands allows c visits (sends v count) heard (given ++ take count v.unsent)
 
 -- Where all visits were to one directory, a conversation is a session with it.
 abbrev pub IsWithOne : {D T : Type 0} → (D → Exchange T → D → Type 0) → Type 0
-IsWithOne {D} allows = (c : ConfigValue) (d e : D) (visits : List (D × D)) (v : ConversationValue) (heard given : List ℕ) →
-    IsOne d visits e → Stands allows c visits v heard given → Reached octets_of allows c d e v.session heard (given ++ v.unsent)
+IsWithOne {D} allows = (c : ConfigValue) (d e : D) (visits : List (D × D)) (v : ConversationValue)
+    (heard given : List ℕ) →
+    IsOne d visits e → Stands allows c visits v heard given → Reached octets_of allows c d e v.session heard
+    (given ++ v.unsent)

@@ -10,5 +10,6 @@ use Rattle.session_handler.specs.Turns.{Session}
 
 -- A session asks for at most one update a message.
 abbrev pub OneUpdateAMessage : Type 0 → Type 0
-OneUpdateAMessage T = (c : ConfigValue) (s t : State) (ms : List MessageValue) (talk : List (Exchange T)) (rs : List MessageValue) (next : Next) →
+OneUpdateAMessage T = (c : ConfigValue) (s t : State) (ms : List MessageValue) (talk : List (Exchange T))
+    (rs : List MessageValue) (next : Next) →
     Session c s ms talk t rs next → updates_in talk ≤ length ms

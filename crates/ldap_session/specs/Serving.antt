@@ -35,32 +35,44 @@ abbrev pub IsAwaiting : Ending → Type 0
 IsAwaiting (awaits rest) = Unit {0}
 IsAwaiting (stops fault) = ⊥
 
--- The notice is due: every message is answered, none of them ends the session, and what stands behind them is no message.
+-- The notice is due: every message is answered, none of them ends the session, and what stands behind them is no
+-- message.
 abbrev pub IsNoticeDue : Next → List MessageValue → Ending → Type 0
 IsNoticeDue next more ending = (next ≡ GoesOn) × (more ≡ []) × IsStopped ending
 
 -- A front of what is due is written: of the responses, and of the notice behind them only where that is due.
-abbrev pub IsFrontDue : (List MessageValue → List ℕ) → Next → List MessageValue → Ending → List MessageValue → List ℕ → Type 0
+abbrev pub IsFrontDue : (List MessageValue → List ℕ) → Next → List MessageValue → Ending → List MessageValue →
+    List ℕ → Type 0
 IsFrontDue shown next more ending responses written =
-    IsFront written (shown responses) ⊎ (IsNoticeDue next more ending × IsFront written (shown (responses ++ notice ∷ [])))
+    IsFront written (shown responses) ⊎ (IsNoticeDue next more ending
+    × IsFront written (shown (responses ++ notice ∷ [])))
 
--- What each end says. Unbound: the client unbound. Disconnected: a message is no request, or what stands behind the messages is no message
--- and was answered by the notice. At the end of the input and after a failed read all messages are answered, a further one is awaited, and all
+-- What each end says. Unbound: the client unbound. Disconnected: a message is no request, or what stands behind the
+-- messages is no message
+-- and was answered by the notice. At the end of the input and after a failed read all messages are answered, a further
+-- one is awaited, and all
 -- responses are written; after a failed write and without memory a front of what is due is.
-abbrev pub IsEnd : (List MessageValue → List ℕ) → SessionEnd → Next → List MessageValue → Ending → List MessageValue → List ℕ → Type 0
+abbrev pub IsEnd : (List MessageValue → List ℕ) → SessionEnd → Next → List MessageValue → Ending → List MessageValue →
+    List ℕ → Type 0
 IsEnd shown Unbound next more ending responses written = (next ≡ UnboundNext) × (written ≡ shown responses)
 IsEnd shown Disconnected next more ending responses written =
     ((next ≡ DisconnectedNext) × (written ≡ shown responses))
     ⊎ (IsNoticeDue next more ending × (written ≡ shown (responses ++ notice ∷ [])))
-IsEnd shown EndOfInput next more ending responses written = (next ≡ GoesOn) × (more ≡ []) × IsBetween ending × (written ≡ shown responses)
-IsEnd shown Truncated next more ending responses written = (next ≡ GoesOn) × (more ≡ []) × IsInside ending × (written ≡ shown responses)
-IsEnd shown ReadFailed next more ending responses written = (next ≡ GoesOn) × (more ≡ []) × IsAwaiting ending × (written ≡ shown responses)
+IsEnd shown EndOfInput next more ending responses written = (next ≡ GoesOn) × (more ≡ []) × IsBetween ending
+    × (written ≡ shown responses)
+IsEnd shown Truncated next more ending responses written = (next ≡ GoesOn) × (more ≡ []) × IsInside ending
+    × (written ≡ shown responses)
+IsEnd shown ReadFailed next more ending responses written = (next ≡ GoesOn) × (more ≡ []) × IsAwaiting ending
+    × (written ≡ shown responses)
 IsEnd shown WriteFailed next more ending responses written = IsFrontDue shown next more ending responses written
 IsEnd shown NoMemory next more ending responses written = IsFrontDue shown next more ending responses written
 
--- The responses to all messages but at most the last are written whole, along the front of the talk that these were answered by: once a write
+-- The responses to all messages but at most the last are written whole, along the front of the talk that these were
+-- answered by: once a write
 -- has failed, no further message is taken.
-pub record IsWholeBefore {T : Type 0} (shown : List MessageValue → List ℕ) (c : ConfigValue) (handed : List MessageValue) (talk : List (Exchange T)) (responses : List MessageValue) (written : List ℕ) : Type 0 where
+pub record IsWholeBefore {T : Type 0} (shown : List MessageValue → List ℕ) (c : ConfigValue)
+    (handed : List MessageValue) (talk : List (Exchange T)) (responses : List MessageValue) (written : List ℕ) :
+    Type 0 where
   pub earlier : List MessageValue
   pub last : List MessageValue
   pub talk_before : List (Exchange T)
@@ -75,9 +87,11 @@ pub record IsWholeBefore {T : Type 0} (shown : List MessageValue → List ℕ) (
   pub session : Session c at_first earlier talk_before state said GoesOn
   pub whole : IsFront (shown said) written
 
--- A session that has ended: the messages of the octets read, up to the end, are answered by a session along a talk with the directory, and
+-- A session that has ended: the messages of the octets read, up to the end, are answered by a session along a talk with
+-- the directory, and
 -- what is written shows its responses, those to all messages but the last whole.
-pub record Ends {D T : Type 0} (shown : List MessageValue → List ℕ) (allows : D → Exchange T → D → Type 0) (c : ConfigValue) (d e : D) (read written : List ℕ) (end : SessionEnd) : Type 0 where
+pub record Ends {D T : Type 0} (shown : List MessageValue → List ℕ) (allows : D → Exchange T → D → Type 0)
+    (c : ConfigValue) (d e : D) (read written : List ℕ) (end : SessionEnd) : Type 0 where
   pub handed : List MessageValue
   pub more : List MessageValue
   pub ending : Ending
@@ -101,9 +115,11 @@ IsRead ReadFailed left = Unit {0}
 IsRead WriteFailed left = Unit {0}
 IsRead NoMemory left = Unit {0}
 
--- A reader and a writer are served: the octets that were read, but for what memory was wanting for, and the octets that were written are
+-- A reader and a writer are served: the octets that were read, but for what memory was wanting for, and the octets that
+-- were written are
 -- those of a session that has ended.
-pub record Served {D T : Type 0} (allows : D → Exchange T → D → Type 0) (c : ConfigValue) (d e : D) (input left output grown : Option (List ℕ)) (end : SessionEnd) : Type 0 where
+pub record Served {D T : Type 0} (allows : D → Exchange T → D → Type 0) (c : ConfigValue) (d e : D)
+    (input left output grown : Option (List ℕ)) (end : SessionEnd) : Type 0 where
   pub read : List ℕ
   pub dropped : List ℕ
   pub written : List ℕ

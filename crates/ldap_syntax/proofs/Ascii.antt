@@ -19,13 +19,15 @@ space_or false c h = h
 mapped_small : (cs : List ℕ) → All IsSmall cs → All IsSmall (mapped cs)
 mapped_small cs all =
     let kept = filter (λ c. not (is_control c)) cs in
-    All-map IsSmall mapped_character kept (All-weaker IsSmall (λ c. IsSmall (mapped_character c)) (λ c h. space_or (is_white c) c h) kept (All-filter (λ c. not (is_control c)) IsSmall cs all))
+    All-map IsSmall mapped_character kept (All-weaker IsSmall (λ c. IsSmall (mapped_character c))
+    (λ c h. space_or (is_white c) c h) kept (All-filter (λ c. not (is_control c)) IsSmall cs all))
 
 lower_small : (c : ℕ) → c < 128 → to_ascii_lowercase c < 128
 lower_small c h = grind (arith, nat_tests)
 
 small_lowered : (cs : List ℕ) → All IsSmall cs → All IsSmall (map to_ascii_lowercase cs)
-small_lowered cs all = All-map IsSmall to_ascii_lowercase cs (All-weaker IsSmall (λ c. IsSmall (to_ascii_lowercase c)) (λ c h. lower_small c h) cs all)
+small_lowered cs all = All-map IsSmall to_ascii_lowercase cs (All-weaker IsSmall (λ c. IsSmall (to_ascii_lowercase c))
+    (λ c h. lower_small c h) cs all)
 
 pub normal_ascii : (bs : List ℕ) → IsAscii bs → normal (chars bs) ≡ mapped (chars bs)
 normal_ascii bs ascii = normalize-ascii Nfkc (mapped (chars bs)) (mapped_small (chars bs) (All-chars bs ascii))

@@ -17,17 +17,23 @@ pub record IsDigit (c : ℕ) : Type 0 where
   pub high : c < 58
 
 pub digit : (c : ℕ) → is_digit c ≡ true → IsDigit c
-digit c h = record { low = grind (arith, nat_tests, and_left (nat_le 48 c) (nat_le c 57) h); high = grind (arith, nat_tests, and_right (nat_le 48 c) (nat_le c 57) h) }
+digit c h = record {
+  low = grind (arith, nat_tests, and_left (nat_le 48 c) (nat_le c 57) h);
+  high =
+      grind (arith, nat_tests, and_right (nat_le 48 c) (nat_le c 57) h);
+}
 
 -- a longer or equal row of digits behind a greater number writes a greater one
-pub more_after : (m n : ℕ) (cs ds : List ℕ) → m < n → length cs ≤ length ds → are_digits cs ≡ true → after m cs < after n ds
+pub more_after : (m n : ℕ) (cs ds : List ℕ) → m < n → length cs ≤ length ds → are_digits cs ≡ true →
+    after m cs < after n ds
 more_after m n [] [] lt le h = lt
 more_after m n [] (d ∷ ds) lt le h = more_after m (n * 10 + (d - 48)) [] ds (omega arith) (omega arith) refl
 more_after m n (c ∷ cs) [] lt le h = absurd (omega (arith, le))
 more_after m n (c ∷ cs) (d ∷ ds) lt le h =
     let f : IsDigit c = digit c (and_left (is_digit c) (are_digits cs) h) in
     let small : m * 10 + (c - 48) < n * 10 + (d - 48) = omega (arith, f.low, f.high, lt) in
-    more_after (m * 10 + (c - 48)) (n * 10 + (d - 48)) cs ds small (omega (arith, le)) (and_right (is_digit c) (are_digits cs) h)
+    more_after (m * 10 + (c - 48)) (n * 10 + (d - 48)) cs ds small (omega (arith, le))
+    (and_right (is_digit c) (are_digits cs) h)
 
 -- two rows of digits of one length, behind one number
 pub data Rows (n : ℕ) (cs ds : List ℕ) : Type 0 where
@@ -61,48 +67,60 @@ three_by a b false false h k = three_same (grind (arith, nat_tests, h, k))
 pub three : (a b : ℕ) → Three a b
 three a b = three_by a b (nat_lt a b) (nat_lt b a) refl refl
 
-rows_by_head : (n c d : ℕ) (cs ds : List ℕ) → IsDigit c → IsDigit d → length cs ≡ length ds → are_digits cs ≡ true → are_digits ds ≡ true → ((m : ℕ) → Rows m cs ds) → Three c d → Rows n (c ∷ cs) (d ∷ ds)
+rows_by_head : (n c d : ℕ) (cs ds : List ℕ) → IsDigit c → IsDigit d → length cs ≡ length ds → are_digits cs ≡ true →
+    are_digits ds ≡ true → ((m : ℕ) → Rows m cs ds) → Three c d → Rows n (c ∷ cs) (d ∷ ds)
 rows_by_head n c d cs ds f g e h k rest (three_less lt) =
-    row_less (head_less c d cs ds lt) (head_less (255 - d) (255 - c) (turned ds) (turned cs) (omega (arith, f.low, f.high, g.low, g.high, lt)))
-    (more_after (n * 10 + (c - 48)) (n * 10 + (d - 48)) cs ds (omega (arith, f.low, f.high, g.low, g.high, lt)) (omega (arith, e)) h)
+    row_less (head_less c d cs ds lt) (head_less (255 - d) (255 - c) (turned ds) (turned cs)
+    (omega (arith, f.low, f.high, g.low, g.high, lt)))
+    (more_after (n * 10 + (c - 48)) (n * 10 + (d - 48)) cs ds (omega (arith, f.low, f.high, g.low, g.high, lt))
+    (omega (arith, e)) h)
 rows_by_head n c d cs ds f g e h k rest (three_same same) =
     subst (λ (x : ℕ). Rows n (c ∷ cs) (x ∷ ds)) same (rows_step n c cs ds (rest (n * 10 + (c - 48))))
 rows_by_head n c d cs ds f g e h k rest (three_more lt) =
-    row_more (head_less d c ds cs lt) (head_less (255 - c) (255 - d) (turned cs) (turned ds) (omega (arith, f.low, f.high, g.low, g.high, lt)))
-    (more_after (n * 10 + (d - 48)) (n * 10 + (c - 48)) ds cs (omega (arith, f.low, f.high, g.low, g.high, lt)) (omega (arith, e)) k)
+    row_more (head_less d c ds cs lt) (head_less (255 - c) (255 - d) (turned cs) (turned ds)
+    (omega (arith, f.low, f.high, g.low, g.high, lt)))
+    (more_after (n * 10 + (d - 48)) (n * 10 + (c - 48)) ds cs (omega (arith, f.low, f.high, g.low, g.high, lt))
+    (omega (arith, e)) k)
 
-pub rows : (cs ds : List ℕ) → length cs ≡ length ds → are_digits cs ≡ true → are_digits ds ≡ true → (n : ℕ) → Rows n cs ds
+pub rows : (cs ds : List ℕ) → length cs ≡ length ds → are_digits cs ≡ true → are_digits ds ≡ true → (n : ℕ) →
+    Rows n cs ds
 rows [] [] e h k n = row_same refl
 rows [] (d ∷ ds) e h k n = absurd (omega (arith, e))
 rows (c ∷ cs) [] e h k n = absurd (omega (arith, e))
 rows (c ∷ cs) (d ∷ ds) e h k n =
-    rows_by_head n c d cs ds (digit c (and_left (is_digit c) (are_digits cs) h)) (digit d (and_left (is_digit d) (are_digits ds) k)) (omega (arith, e))
+    rows_by_head n c d cs ds (digit c (and_left (is_digit c) (are_digits cs) h))
+    (digit d (and_left (is_digit d) (are_digits ds) k)) (omega (arith, e))
     (and_right (is_digit c) (are_digits cs) h) (and_right (is_digit d) (are_digits ds) k)
-    (rows cs ds (omega (arith, e)) (and_right (is_digit c) (are_digits cs) h) (and_right (is_digit d) (are_digits ds) k)) (three c d)
+    (rows cs ds (omega (arith, e)) (and_right (is_digit c) (are_digits cs) h) (and_right (is_digit d) (are_digits ds)
+    k)) (three c d)
 
 -- so many ones as there are digits, and a zero before the rest
 abbrev pub count_before : List ℕ → List ℕ → List ℕ
 count_before cs t = map (λ d. 1) cs ++ 0 ∷ t
 
-pub fewer_before : (cs ds t u : List ℕ) → length cs < length ds → is_before (count_before cs t) (count_before ds u) ≡ true
+pub fewer_before : (cs ds t u : List ℕ) → length cs < length ds → is_before (count_before cs t) (count_before ds u) ≡
+    true
 fewer_before [] [] t u lt = absurd (omega (arith, lt))
 fewer_before [] (d ∷ ds) t u lt = refl
 fewer_before (c ∷ cs) [] t u lt = absurd (omega (arith, lt))
 fewer_before (c ∷ cs) (d ∷ ds) t u lt = fewer_before cs ds t u (omega (arith, lt))
 
-pub fewer_turned : (cs ds t u : List ℕ) → length cs < length ds → is_before (turned (count_before ds u)) (turned (count_before cs t)) ≡ true
+pub fewer_turned : (cs ds t u : List ℕ) → length cs < length ds → is_before (turned (count_before ds u))
+    (turned (count_before cs t)) ≡ true
 fewer_turned [] [] t u lt = absurd (omega (arith, lt))
 fewer_turned [] (d ∷ ds) t u lt = refl
 fewer_turned (c ∷ cs) [] t u lt = absurd (omega (arith, lt))
 fewer_turned (c ∷ cs) (d ∷ ds) t u lt = fewer_turned cs ds t u (omega (arith, lt))
 
-pub as_many : (cs ds t u : List ℕ) → length cs ≡ length ds → is_before (count_before cs t) (count_before ds u) ≡ is_before t u
+pub as_many : (cs ds t u : List ℕ) → length cs ≡ length ds → is_before (count_before cs t) (count_before ds u) ≡
+    is_before t u
 as_many [] [] t u e = refl
 as_many [] (d ∷ ds) t u e = absurd (omega (arith, e))
 as_many (c ∷ cs) [] t u e = absurd (omega (arith, e))
 as_many (c ∷ cs) (d ∷ ds) t u e = as_many cs ds t u (omega (arith, e))
 
-pub as_many_turned : (cs ds t u : List ℕ) → length cs ≡ length ds → is_before (turned (count_before cs t)) (turned (count_before ds u)) ≡ is_before (turned t) (turned u)
+pub as_many_turned : (cs ds t u : List ℕ) → length cs ≡ length ds → is_before (turned (count_before cs t))
+    (turned (count_before ds u)) ≡ is_before (turned t) (turned u)
 as_many_turned [] [] t u e = refl
 as_many_turned [] (d ∷ ds) t u e = absurd (omega (arith, e))
 as_many_turned (c ∷ cs) [] t u e = absurd (omega (arith, e))
@@ -110,9 +128,11 @@ as_many_turned (c ∷ cs) (d ∷ ds) t u e = as_many_turned cs ds t u (omega (ar
 
 -- two numbers as they are written
 pub data Numbers (cs ds : List ℕ) : Type 0 where
-  less : is_before (counted cs) (counted ds) ≡ true → is_before (turned (counted ds)) (turned (counted cs)) ≡ true → decimal cs < decimal ds → Numbers cs ds
+  less : is_before (counted cs) (counted ds) ≡ true → is_before (turned (counted ds)) (turned (counted cs)) ≡ true →
+      decimal cs < decimal ds → Numbers cs ds
   same : cs ≡ ds → Numbers cs ds
-  more : is_before (counted ds) (counted cs) ≡ true → is_before (turned (counted cs)) (turned (counted ds)) ≡ true → decimal ds < decimal cs → Numbers cs ds
+  more : is_before (counted ds) (counted cs) ≡ true → is_before (turned (counted cs)) (turned (counted ds)) ≡ true →
+      decimal ds < decimal cs → Numbers cs ds
 
 shorter_is_less : (cs ds : List ℕ) → IsWritten cs → IsWritten ds → length cs < length ds → decimal cs < decimal ds
 shorter_is_less cs [] f g lt = absurd (omega (arith, lt))
@@ -127,9 +147,11 @@ by_rows cs ds e (row_same s) = same s
 by_rows cs ds e (row_more a b l) = more (as_many ds cs ds cs (sym e) ∙ a) (as_many_turned cs ds cs ds e ∙ b) l
 
 by_length : (cs ds : List ℕ) → IsWritten cs → IsWritten ds → Three (length cs) (length ds) → Numbers cs ds
-by_length cs ds f g (three_less lt) = less (fewer_before cs ds cs ds lt) (fewer_turned cs ds cs ds lt) (shorter_is_less cs ds f g lt)
+by_length cs ds f g (three_less lt) = less (fewer_before cs ds cs ds lt) (fewer_turned cs ds cs ds lt)
+    (shorter_is_less cs ds f g lt)
 by_length cs ds f g (three_same e) = by_rows cs ds e (rows cs ds e f.digits g.digits 0)
-by_length cs ds f g (three_more lt) = more (fewer_before ds cs ds cs lt) (fewer_turned ds cs ds cs lt) (shorter_is_less ds cs g f lt)
+by_length cs ds f g (three_more lt) = more (fewer_before ds cs ds cs lt) (fewer_turned ds cs ds cs lt)
+    (shorter_is_less ds cs g f lt)
 
 pub numbers : (cs ds : List ℕ) → IsWritten cs → IsWritten ds → Numbers cs ds
 numbers cs ds f g = by_length cs ds f g (three (length cs) (length ds))
@@ -145,7 +167,8 @@ head_decides x y b lt h = grind (arith, nat_tests, h)
 tail_decides : (x : ℕ) (b : Bool) → (nat_lt x x || (nat_eq x x && b)) ≡ true → b ≡ true
 tail_decides x b h = grind (arith, nat_tests, h)
 
-heads_differ : (x y : ℕ) (xs ys : List ℕ) → (is_before xs ys ≡ true → is_before ys xs ≡ true → ⊥) → Three x y → is_before (x ∷ xs) (y ∷ ys) ≡ true → is_before (y ∷ ys) (x ∷ xs) ≡ true → ⊥
+heads_differ : (x y : ℕ) (xs ys : List ℕ) → (is_before xs ys ≡ true → is_before ys xs ≡ true → ⊥) → Three x y →
+    is_before (x ∷ xs) (y ∷ ys) ≡ true → is_before (y ∷ ys) (x ∷ xs) ≡ true → ⊥
 heads_differ x y xs ys rest (three_less lt) h k = head_decides x y (is_before ys xs) lt k
 heads_differ x y xs ys rest (three_more lt) h k = head_decides y x (is_before xs ys) lt h
 heads_differ x y xs ys rest (three_same e) h k =

@@ -29,9 +29,11 @@ both true true e f = refl
 both true false e f = f
 both false b e f = e
 
-all_small : (p : ℕ → Bool) → ((c : ℕ) → p c ≡ true → is_ascii c ≡ true) → (v : List ℕ) → list_all p v ≡ true → is_all_ascii v ≡ true
+all_small : (p : ℕ → Bool) → ((c : ℕ) → p c ≡ true → is_ascii c ≡ true) → (v : List ℕ) → list_all p v ≡ true →
+    is_all_ascii v ≡ true
 all_small p small [] h = refl
-all_small p small (c ∷ cs) h = both (is_ascii c) (is_all_ascii cs) (small c (and_left (p c) (list_all p cs) h)) (all_small p small cs (and_right (p c) (list_all p cs) h))
+all_small p small (c ∷ cs) h = both (is_ascii c) (is_all_ascii cs) (small c (and_left (p c) (list_all p cs) h))
+    (all_small p small cs (and_right (p c) (list_all p cs) h))
 
 digit_or_space : (c : ℕ) → (is_digit c || nat_eq c 32) ≡ true → is_ascii c ≡ true
 digit_or_space c h = grind (arith, nat_tests, h)
@@ -46,15 +48,19 @@ utf8_of syntax.DirectoryString v u h = and_right (has_octets v) (is_utf8 v) h
 utf8_of syntax.GeneralizedTime v u h = cc
 utf8_of syntax.Ia5String v u h = ascii_text v h
 utf8_of syntax.Integer v u h = cc
-utf8_of syntax.NumericString v u h = ascii_text v (all_small (λ c. is_digit c || nat_eq c 32) digit_or_space v (and_right (has_octets v) (are_digits_or_spaces v) h))
+utf8_of syntax.NumericString v u h = ascii_text v (all_small (λ c. is_digit c || nat_eq c 32) digit_or_space v
+    (and_right (has_octets v) (are_digits_or_spaces v) h))
 utf8_of syntax.ObjectIdentifier v u h = cc
 utf8_of syntax.OctetString v u h = cc
-utf8_of syntax.TelephoneNumber v u h = ascii_text v (all_small is_printable printable v (and_right (has_octets v) (are_printable v) h))
+utf8_of syntax.TelephoneNumber v u h = ascii_text v (all_small is_printable printable v
+    (and_right (has_octets v) (are_printable v) h))
 
-some_text : (f : Family) (s : Syntax) (v : List ℕ) → is_textual s ≡ true → is_in_syntax s v ≡ true → is_some (as_text (spelled f Whole v)) ≡ true
+some_text : (f : Family) (s : Syntax) (v : List ℕ) → is_textual s ≡ true → is_in_syntax s v ≡ true →
+    is_some (as_text (spelled f Whole v)) ≡ true
 some_text f s v u h = rw (utf8_of s v u h) refl
 
-fits : (f : Family) (s : Syntax) (v : List ℕ) → is_used_on f s ≡ true → is_in_syntax s v ≡ true → is_some (meaning_in f v) ≡ true
+fits : (f : Family) (s : Syntax) (v : List ℕ) → is_used_on f s ≡ true → is_in_syntax s v ≡ true →
+    is_some (meaning_in f v) ≡ true
 fits family.Identifier syntax.Boolean v u h = cc
 fits family.Identifier syntax.DistinguishedName v u h = cc
 fits family.Identifier syntax.DirectoryString v u h = cc

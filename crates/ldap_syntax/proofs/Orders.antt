@@ -19,7 +19,8 @@ same_first x y xs ys h = ap (λ (r : Ordering). ordering_then r (slice_cmp nat_c
 
 -- the order tells which is before, and which are the same
 pub before_is : (w k : List ℕ) → is_lt (slice_cmp nat_cmp w k) ≡ is_before w k
-before_is w k = same_from_slice_cmp nat_cmp is_lt is_before refl (λ _ _. refl) (λ _ _. refl) (λ x y xs ys o h. grind (arith, nat_tests)) w k (slice_cmp nat_cmp w k) refl
+before_is w k = same_from_slice_cmp nat_cmp is_lt is_before refl (λ _ _. refl) (λ _ _. refl)
+    (λ x y xs ys o h. grind (arith, nat_tests)) w k (slice_cmp nat_cmp w k) refl
 
 pub same_is : (w k : List ℕ) → is_eq (slice_cmp nat_cmp w k) ≡ bytes_eq w k
 same_is w k = is_eq-slice_cmp w k

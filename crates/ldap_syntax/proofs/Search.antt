@@ -38,12 +38,14 @@ pub begins : (ps : List (List ℕ)) (h : List ℕ) → SameSearch ps ps h h
 begins ps h = record { there = λ s. s; back = λ s. s }
 
 -- a part may be taken where it first stands
-pub goes_on : (ps qs : List (List ℕ)) (p h g after x : List ℕ) → SameSearch ps (p ∷ qs) h g → g ≡ x ++ p ++ after → ((b a : List ℕ) → g ≡ b ++ p ++ a → length x ≤ length b) → SameSearch ps qs h after
+pub goes_on : (ps qs : List (List ℕ)) (p h g after x : List ℕ) → SameSearch ps (p ∷ qs) h g → g ≡ x ++ p ++ after →
+    ((b a : List ℕ) → g ≡ b ++ p ++ a → length x ≤ length b) → SameSearch ps qs h after
 goes_on ps qs p h g after x s e first = record {
   there = λ d.
       let t : Stands p (StandInOrder qs) g = s.there d in
       let no_later : length x ≤ length t.before = first t.before t.after t.place in
-      let z = cut_later (x ++ p) after (t.before ++ p) t.after (sym e ∙ t.place) (omega (arith, length-append x p, length-append t.before p)) in
+      let z = cut_later (x ++ p) after (t.before ++ p) t.after (sym e ∙ t.place)
+      (omega (arith, length-append x p, length-append t.before p)) in
       subst (StandInOrder qs) (sym z.1) (later qs z.0 t.after t.then);
   back = λ d. s.back (record { before = x; after = after; place = e; then = d });
 }
@@ -51,7 +53,8 @@ goes_on ps qs p h g after x s e first = record {
 pub ends : (ps : List (List ℕ)) (h g : List ℕ) → SameSearch ps [] h g → IsTrue true ↔ StandInOrder ps h
 ends ps h g s = (λ _. s.back tt, λ _. refl)
 
-pub fails : (ps qs : List (List ℕ)) (p h g : List ℕ) → SameSearch ps (p ∷ qs) h g → ((b a : List ℕ) → g ≡ b ++ p ++ a → ⊥) → IsTrue false ↔ StandInOrder ps h
+pub fails : (ps qs : List (List ℕ)) (p h g : List ℕ) → SameSearch ps (p ∷ qs) h g →
+    ((b a : List ℕ) → g ≡ b ++ p ++ a → ⊥) → IsTrue false ↔ StandInOrder ps h
 fails ps qs p h g s none = (
   λ t. absurd (cc),
   λ d. let t : Stands p (StandInOrder qs) g = s.there d in absurd (none t.before t.after t.place),
@@ -62,7 +65,8 @@ pub occurs : (h b p a : List ℕ) → h ≡ b ++ p ++ a → OccursAt h p (length
 occurs h b p a e =
     let whole : h ≡ b ++ (p ++ a) = e ∙ append_assoc b p a in
     let behind : drop (length b) h ≡ p ++ a = ap (drop (length b)) whole ∙ drop-append_seam b (p ++ a) in
-    let long : length h ≡ length b + (length p + length a) = ap length whole ∙ length-append b (p ++ a) ∙ ap (λ (n : ℕ). length b + n) (length-append p a) in
+    let long : length h ≡ length b + (length p + length a) = ap length whole ∙ length-append b (p ++ a)
+    ∙ ap (λ (n : ℕ). length b + n) (length-append p a) in
     OccursAt-from_part h p (length b) (omega (arith, long)) (ap (take (length p)) behind ∙ take-append_seam p a)
 
 pub nowhere : (h p : List ℕ) → Nowhere (OccursAt h p) 0 (length h + 1) → (b a : List ℕ) → h ≡ b ++ p ++ a → ⊥
@@ -76,27 +80,34 @@ pub record Cuts (h p rest : List ℕ) : Type 0 where
   pub place : h ≡ before ++ p ++ rest
   pub first : (b a : List ℕ) → h ≡ b ++ p ++ a → length before ≤ length b
 
-first_place : (h p : List ℕ) (at : ℕ) → NoneBefore (OccursAt h p) 0 (length h + 1) at → (b a : List ℕ) → h ≡ b ++ p ++ a → (length b < at → ⊥)
+first_place : (h p : List ℕ) (at : ℕ) → NoneBefore (OccursAt h p) 0 (length h + 1) at → (b a : List ℕ) →
+    h ≡ b ++ p ++ a → (length b < at → ⊥)
 first_place h p at none b a e l = none.before (length b) (omega arith) l (occurs h b p a e)
 
-pub found : (h p : List ℕ) (at : ℕ) → NoneBefore (OccursAt h p) 0 (length h + 1) at → OccursAt h p at → Cuts h p (drop (at + length p) h)
+pub found : (h p : List ℕ) (at : ℕ) → NoneBefore (OccursAt h p) 0 (length h + 1) at → OccursAt h p at →
+    Cuts h p (drop (at + length p) h)
 found h p at none here = record {
   before = take at h;
-  place = sym (take-append-drop at h) ∙ ap (λ (x : List ℕ). take at h ++ x) (OccursAt-split h p at here) ∙ sym (append_assoc (take at h) p (drop (at + length p) h));
-  first = λ b a e. let not = first_place h p at none b a e in let n : length (take at h) ≡ at = length-take-le at h (omega (arith, here.fits)) in omega (arith, n, not);
+  place = sym (take-append-drop at h) ∙ ap (λ (x : List ℕ). take at h ++ x) (OccursAt-split h p at here)
+      ∙ sym (append_assoc (take at h) p (drop (at + length p) h));
+  first = λ b a e. let not = first_place h p at none b a e in let n : length (take at h) ≡ at = length-take-le at h
+      (omega (arith, here.fits)) in omega (arith, n, not);
 }
 
 -- a part at the start and a part at the end
 pub front_is : (h p : List ℕ) → bytes_eq (take (length p) h) p ≡ true → h ≡ p ++ drop (length p) h
-front_is h p e = sym (take-append-drop (length p) h) ∙ ap (λ (x : List ℕ). x ++ drop (length p) h) ((bytes_eq-Decides (take (length p) h) p).0 e)
+front_is h p e = sym (take-append-drop (length p) h) ∙ ap (λ (x : List ℕ). x ++ drop (length p) h)
+    ((bytes_eq-Decides (take (length p) h) p).0 e)
 
 pub front_is_not : (h p x : List ℕ) → bytes_eq (take (length p) h) p ≡ false → h ≡ p ++ x → ⊥
 front_is_not h p x e w =
-    let yes : bytes_eq (take (length p) h) p ≡ true = (bytes_eq-Decides (take (length p) h) p).1 (ap (take (length p)) w ∙ take-append_seam p x) in
+    let yes : bytes_eq (take (length p) h) p ≡ true = (bytes_eq-Decides (take (length p) h) p).1
+    (ap (take (length p)) w ∙ take-append_seam p x) in
     absurd (cc)
 
 pub back_is : (h p : List ℕ) → bytes_eq (drop (length h - length p) h) p ≡ true → h ≡ take (length h - length p) h ++ p
-back_is h p e = sym (take-append-drop (length h - length p) h) ∙ ap (λ (x : List ℕ). take (length h - length p) h ++ x) ((bytes_eq-Decides (drop (length h - length p) h) p).0 e)
+back_is h p e = sym (take-append-drop (length h - length p) h)
+    ∙ ap (λ (x : List ℕ). take (length h - length p) h ++ x) ((bytes_eq-Decides (drop (length h - length p) h) p).0 e)
 
 seam_at : (h x p : List ℕ) (n : ℕ) → h ≡ x ++ p → n ≡ length x → drop n h ≡ p
 seam_at h x p n w e = rw (w, e) (drop-append_seam x p)
@@ -104,11 +115,14 @@ seam_at h x p n w e = rw (w, e) (drop-append_seam x p)
 pub back_is_not : (h p x : List ℕ) → bytes_eq (drop (length h - length p) h) p ≡ false → h ≡ x ++ p → ⊥
 back_is_not h p x e w =
     let long : length h ≡ length x + length p = ap length w ∙ length-append x p in
-    let yes : bytes_eq (drop (length h - length p) h) p ≡ true = (bytes_eq-Decides (drop (length h - length p) h) p).1 (seam_at h x p (length h - length p) w (omega (arith, long))) in
+    let yes : bytes_eq (drop (length h - length p) h) p ≡ true = (bytes_eq-Decides (drop (length h - length p) h) p).1
+    (seam_at h x p (length h - length p) w (omega (arith, long))) in
     absurd (cc)
 
 -- the ends are cut off, and the rest is what stands between
-pub whole : (io fo : Option (List ℕ)) (any : List (List ℕ)) (h i f rest middle : List ℕ) (r : Bool) → i ≡ part_or_nothing io → f ≡ part_or_nothing fo → h ≡ i ++ rest → rest ≡ middle ++ f → IsTrue r ↔ StandInOrder any middle → IsTrue r ↔ HasParts io any fo h
+pub whole : (io fo : Option (List ℕ)) (any : List (List ℕ)) (h i f rest middle : List ℕ) (r : Bool) →
+    i ≡ part_or_nothing io → f ≡ part_or_nothing fo → h ≡ i ++ rest → rest ≡ middle ++ f → IsTrue r ↔ StandInOrder any
+    middle → IsTrue r ↔ HasParts io any fo h
 whole io fo any h i f rest middle r ei ef eh er s = (
   λ t. record {
     middle = middle;
@@ -117,47 +131,67 @@ whole io fo any h i f rest middle r ei ef eh er s = (
   },
   λ d. s.1 (subst (StandInOrder any) (between_is io fo any h i f rest middle ei ef eh er d) d.between),
 ) where
-  between_is : (io fo : Option (List ℕ)) (any : List (List ℕ)) (h i f rest middle : List ℕ) → i ≡ part_or_nothing io → f ≡ part_or_nothing fo → h ≡ i ++ rest → rest ≡ middle ++ f → (d : HasParts io any fo h) → d.middle ≡ middle
+  between_is : (io fo : Option (List ℕ)) (any : List (List ℕ)) (h i f rest middle : List ℕ) → i ≡ part_or_nothing io →
+      f ≡ part_or_nothing fo → h ≡ i ++ rest → rest ≡ middle ++ f → (d : HasParts io any fo h) → d.middle ≡ middle
   between_is io fo any h i f rest middle ei ef eh er d =
-      let all : i ++ (middle ++ f) ≡ i ++ (d.middle ++ f) = ap (λ (x : List ℕ). i ++ x) (sym er) ∙ sym eh ∙ d.ends ∙ rw (ei, ef) (append_assoc (part_or_nothing io) d.middle (part_or_nothing fo)) in
+      let all : i ++ (middle ++ f) ≡ i ++ (d.middle ++ f) = ap (λ (x : List ℕ). i ++ x) (sym er) ∙ sym eh ∙ d.ends
+      ∙ rw (ei, ef) (append_assoc (part_or_nothing io) d.middle (part_or_nothing fo)) in
       sym (append_cancel_right middle d.middle f (append_cancel_left i (middle ++ f) (d.middle ++ f) all))
 
-pub no_front : (io fo : Option (List ℕ)) (any : List (List ℕ)) (h i : List ℕ) → i ≡ part_or_nothing io → ((x : List ℕ) → h ≡ i ++ x → ⊥) → IsTrue false ↔ HasParts io any fo h
+pub no_front : (io fo : Option (List ℕ)) (any : List (List ℕ)) (h i : List ℕ) → i ≡ part_or_nothing io →
+    ((x : List ℕ) → h ≡ i ++ x → ⊥) → IsTrue false ↔ HasParts io any fo h
 no_front io fo any h i ei none = (
   λ t. absurd (cc),
-  λ d. absurd (none (d.middle ++ part_or_nothing fo) (d.ends ∙ rw ei (append_assoc (part_or_nothing io) d.middle (part_or_nothing fo)))),
+  λ d. absurd (none (d.middle ++ part_or_nothing fo) (d.ends
+      ∙ rw ei (append_assoc (part_or_nothing io) d.middle (part_or_nothing fo)))),
 )
 
-pub no_back : (io fo : Option (List ℕ)) (any : List (List ℕ)) (h i f rest : List ℕ) → i ≡ part_or_nothing io → f ≡ part_or_nothing fo → h ≡ i ++ rest → ((x : List ℕ) → rest ≡ x ++ f → ⊥) → IsTrue false ↔ HasParts io any fo h
+pub no_back : (io fo : Option (List ℕ)) (any : List (List ℕ)) (h i f rest : List ℕ) → i ≡ part_or_nothing io →
+    f ≡ part_or_nothing fo → h ≡ i ++ rest → ((x : List ℕ) → rest ≡ x ++ f → ⊥) → IsTrue false ↔ HasParts io any fo h
 no_back io fo any h i f rest ei ef eh none = (
   λ t. absurd (cc),
-  λ d. absurd (none d.middle (append_cancel_left i rest (d.middle ++ f) (sym eh ∙ d.ends ∙ rw (ei, ef) (append_assoc (part_or_nothing io) d.middle (part_or_nothing fo))))),
+  λ d. absurd (none d.middle (append_cancel_left i rest (d.middle ++ f) (sym eh ∙ d.ends
+      ∙ rw (ei, ef) (append_assoc (part_or_nothing io) d.middle (part_or_nothing fo))))),
 )
 
 -- what a search answers, at the values of its calls
-pub found_rest : (h p : List ℕ) (at : ℕ) → NoneBefore (OccursAt h p) 0 (length h + 1) at → OccursAt h p at → (x : List ℕ) × (h ≡ x ++ p ++ take (length h - (at + length p)) (drop (at + length p) h)) × ((b a : List ℕ) → h ≡ b ++ p ++ a → length x ≤ length b)
+pub found_rest : (h p : List ℕ) (at : ℕ) → NoneBefore (OccursAt h p) 0 (length h + 1) at → OccursAt h p at →
+    (x : List ℕ) × (h ≡ x ++ p ++ take (length h - (at + length p)) (drop (at + length p) h))
+    × ((b a : List ℕ) → h ≡ b ++ p ++ a → length x ≤ length b)
 found_rest h p at none here =
-    let cut = found h p at none here in
-    (cut.before, cut.place ∙ ap (λ (x : List ℕ). cut.before ++ p ++ x) (sym (take_all (length h - (at + length p)) (drop (at + length p) h) (omega (arith, length-drop (at + length p) h)))), cut.first)
+    let cut = found h p at none here in (
+      cut.before,
+      cut.place ∙ ap (λ (x : List ℕ). cut.before ++ p ++ x) (sym (take_all (length h - (at + length p))
+          (drop (at + length p) h) (omega (arith, length-drop (at + length p) h)))),
+      cut.first,
+    )
 
-pub match_weaker : {A : Type 0} (o : Option A) {P P' : Type 0} {Q Q' : A → Type 0} → MatchOption o P Q → (P → P') → ((x : A) → Q x → Q' x) → MatchOption o P' Q'
+pub match_weaker : {A : Type 0} (o : Option A) {P P' : Type 0} {Q Q' : A → Type 0} → MatchOption o P Q → (P → P') →
+    ((x : A) → Q x → Q' x) → MatchOption o P' Q'
 match_weaker None m f g = f m
 match_weaker (Some x) m f g = g x m
 
-pub next_is : (ps : List (List ℕ)) (i : ℕ) (p : List ℕ) → i < length ps → p ≡ get_or ps i p → drop i ps ≡ p ∷ drop (i + 1) ps
+pub next_is : (ps : List (List ℕ)) (i : ℕ) (p : List ℕ) → i < length ps → p ≡ get_or ps i p →
+    drop i ps ≡ p ∷ drop (i + 1) ps
 next_is ps i p h e = rw (add-one, drop-cons ps i p) (ap (λ (x : List ℕ). x ∷ drop (suc i) ps) (sym e))
 
-pub goes_on_at : (ps : List (List ℕ)) (i : ℕ) (p q h g after : List ℕ) → i < length ps → p ≡ get_or ps i p → q ≡ p → SameSearch ps (drop i ps) h g
-    → (x : List ℕ) × (g ≡ x ++ q ++ after) × ((b a : List ℕ) → g ≡ b ++ q ++ a → length x ≤ length b) → SameSearch ps (drop (i + 1) ps) h after
+pub goes_on_at : (ps : List (List ℕ)) (i : ℕ) (p q h g after : List ℕ) → i < length ps → p ≡ get_or ps i p → q ≡ p →
+    SameSearch ps (drop i ps) h g
+    → (x : List ℕ) × (g ≡ x ++ q ++ after) × ((b a : List ℕ) → g ≡ b ++ q ++ a → length x ≤ length b) →
+    SameSearch ps (drop (i + 1) ps) h after
 goes_on_at ps i p q h g after l e eq s cut =
-    let t : SameSearch ps (q ∷ drop (i + 1) ps) h g = subst (λ (qs : List (List ℕ)). SameSearch ps qs h g) (next_is ps i p l e ∙ ap (λ (x : List ℕ). x ∷ drop (i + 1) ps) (sym eq)) s in
+    let t : SameSearch ps (q ∷ drop (i + 1) ps) h g = subst (λ (qs : List (List ℕ)). SameSearch ps qs h g)
+    (next_is ps i p l e ∙ ap (λ (x : List ℕ). x ∷ drop (i + 1) ps) (sym eq)) s in
     goes_on ps (drop (i + 1) ps) q h g after cut.0 t cut.1 cut.2
 
-pub fails_at : (ps : List (List ℕ)) (i : ℕ) (p q h g : List ℕ) → i < length ps → p ≡ get_or ps i p → q ≡ p → SameSearch ps (drop i ps) h g
+pub fails_at : (ps : List (List ℕ)) (i : ℕ) (p q h g : List ℕ) → i < length ps → p ≡ get_or ps i p → q ≡ p →
+    SameSearch ps (drop i ps) h g
     → ((b a : List ℕ) → g ≡ b ++ q ++ a → ⊥) → IsTrue false ↔ StandInOrder ps h
 fails_at ps i p q h g l e eq s none =
-    let t : SameSearch ps (q ∷ drop (i + 1) ps) h g = subst (λ (qs : List (List ℕ)). SameSearch ps qs h g) (next_is ps i p l e ∙ ap (λ (x : List ℕ). x ∷ drop (i + 1) ps) (sym eq)) s in
+    let t : SameSearch ps (q ∷ drop (i + 1) ps) h g = subst (λ (qs : List (List ℕ)). SameSearch ps qs h g)
+    (next_is ps i p l e ∙ ap (λ (x : List ℕ). x ∷ drop (i + 1) ps) (sym eq)) s in
     fails ps (drop (i + 1) ps) q h g t none
 
-pub ends_at : (ps : List (List ℕ)) (i : ℕ) (h g : List ℕ) → length ps ≤ i → SameSearch ps (drop i ps) h g → IsTrue true ↔ StandInOrder ps h
+pub ends_at : (ps : List (List ℕ)) (i : ℕ) (h g : List ℕ) → length ps ≤ i → SameSearch ps (drop i ps) h g →
+    IsTrue true ↔ StandInOrder ps h
 ends_at ps i h g l s = ends ps h g (subst (λ (qs : List (List ℕ)). SameSearch ps qs h g) (drop_all i ps l) s)

@@ -8,7 +8,8 @@ use Rattle.ldap_syntax.specs.declared.preparing.Part.{Part}
 abbrev pub is_spoken : List ℕ → Bool
 is_spoken cs = list_any (λ c. not (nat_eq c 32)) cs
 
-no_words_step : (e : Bool) (c : ℕ) (cs : List ℕ) → nat_eq c 32 ≡ e → (not e || is_spoken cs) ≡ false → (is_spoken cs ≡ false → words cs ≡ []) → words (c ∷ cs) ≡ []
+no_words_step : (e : Bool) (c : ℕ) (cs : List ℕ) → nat_eq c 32 ≡ e → (not e || is_spoken cs) ≡ false →
+    (is_spoken cs ≡ false → words cs ≡ []) → words (c ∷ cs) ≡ []
 no_words_step true c cs is h rest = rw is (rest h)
 no_words_step false c cs is h rest = absurd (cc)
 
@@ -21,7 +22,9 @@ some_character c true [] h = cc
 some_character c true (w ∷ ws) h = cc
 some_character c false ws h = cc
 
-some_words_step : (e : Bool) (c : ℕ) (cs : List ℕ) → nat_eq c 32 ≡ e → (not e || is_spoken cs) ≡ true → (is_spoken cs ≡ true → words cs ≡ [] → ⊥) → cond e (words cs) (with_character c (begins_word cs) (words cs)) ≡ [] → ⊥
+some_words_step : (e : Bool) (c : ℕ) (cs : List ℕ) → nat_eq c 32 ≡ e → (not e || is_spoken cs) ≡ true →
+    (is_spoken cs ≡ true → words cs ≡ [] → ⊥) → cond e (words cs) (with_character c (begins_word cs) (words cs)) ≡
+    [] → ⊥
 some_words_step true c cs is h rest w = rest h w
 some_words_step false c cs is h rest w = some_character c (begins_word cs) (words cs) w
 
@@ -29,7 +32,8 @@ pub some_words : (cs : List ℕ) → is_spoken cs ≡ true → words cs ≡ [] �
 some_words [] h w = cc
 some_words (c ∷ cs) h w = some_words_step (nat_eq c 32) c cs refl h (some_words cs) w
 
-words_are_spaced : (part : Part) (cs : List ℕ) (ws : List (List ℕ)) → (ws ≡ [] → ⊥) → spaced_words part cs ws ≡ (space_if (is_led part cs) ++ joined ws) ++ space_if (is_closed part cs)
+words_are_spaced : (part : Part) (cs : List ℕ) (ws : List (List ℕ)) → (ws ≡ [] → ⊥) → spaced_words part cs ws ≡
+    (space_if (is_led part cs) ++ joined ws) ++ space_if (is_closed part cs)
 words_are_spaced part cs [] h = absurd (h refl)
 words_are_spaced part cs (w ∷ ws) h = refl
 
@@ -42,15 +46,22 @@ space_bytes true = rw (encode_ascii 32 (omega arith)) refl
 space_bytes false = refl
 
 -- what is written for a text with a word, step by step
-pub written : (part : Part) (cs b₁ b₂ b₃ : List ℕ) (led closed : Bool) → is_spoken cs ≡ true → led ≡ is_led part cs → closed ≡ is_closed part cs → b₁ ≡ [] ++ space_if led → b₂ ≡ b₁ ++ encode_utf8_all (joined (words cs)) → b₃ ≡ b₂ ++ space_if closed → b₃ ≡ encode_utf8_all (spaced part cs)
+pub written : (part : Part) (cs b₁ b₂ b₃ : List ℕ) (led closed : Bool) → is_spoken cs ≡ true → led ≡ is_led part cs →
+    closed ≡ is_closed part cs → b₁ ≡ [] ++ space_if led → b₂ ≡ b₁ ++ encode_utf8_all (joined (words cs)) →
+    b₃ ≡ b₂ ++ space_if closed → b₃ ≡ encode_utf8_all (spaced part cs)
 written part cs b₁ b₂ b₃ led closed h l k e₁ e₂ e₃ =
-    let shape : spaced part cs ≡ (space_if (is_led part cs) ++ joined (words cs)) ++ space_if (is_closed part cs) = words_are_spaced part cs (words cs) (some_words cs h) in
-    let bytes : encode_utf8_all ((space_if led ++ joined (words cs)) ++ space_if closed) ≡ (space_if led ++ encode_utf8_all (joined (words cs))) ++ space_if closed =
-    encodes-append (space_if led ++ joined (words cs)) (space_if closed) ∙ ap₂ ◌++◌ (encodes-append (space_if led) (joined (words cs)) ∙ ap (λ (x : List ℕ). x ++ encode_utf8_all (joined (words cs))) (space_bytes led)) (space_bytes closed) in
+    let shape : spaced part cs ≡ (space_if (is_led part cs) ++ joined (words cs)) ++ space_if (is_closed part cs) =
+    words_are_spaced part cs (words cs) (some_words cs h) in
+    let bytes : encode_utf8_all ((space_if led ++ joined (words cs)) ++ space_if closed) ≡
+    (space_if led ++ encode_utf8_all (joined (words cs))) ++ space_if closed =
+    encodes-append (space_if led ++ joined (words cs)) (space_if closed)
+    ∙ ap₂ ◌++◌ (encodes-append (space_if led) (joined (words cs))
+    ∙ ap (λ (x : List ℕ). x ++ encode_utf8_all (joined (words cs))) (space_bytes led)) (space_bytes closed) in
     rw (e₃, e₂, e₁) (sym bytes ∙ ap encode_utf8_all (rw (l, k) (sym shape)))
 
 -- the last character
-pub last_space : (cs : List ℕ) (d j : ℕ) → 1 ≤ length cs → j ≡ length cs - 1 → nat_eq (get_or cs j d) 32 ≡ ends_with_space cs
+pub last_space : (cs : List ℕ) (d j : ℕ) → 1 ≤ length cs → j ≡ length cs - 1 → nat_eq (get_or cs j d) 32 ≡
+    ends_with_space cs
 last_space [] d j h e = absurd (omega arith)
 last_space (c ∷ []) d zero h e = refl
 last_space (c ∷ []) d (suc j) h e = absurd (omega arith)

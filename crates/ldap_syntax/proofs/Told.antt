@@ -33,22 +33,36 @@ third a b c d h = and_left c d (and_right (a && b) (c && d) h)
 fourth : (a b c d : Bool) → ((a && b) && (c && d)) ≡ true → d ≡ true
 fourth a b c d h = and_right c d (and_right (a && b) (c && d) h)
 
-plain_exact : (v : List ℕ) → are_plain (texts_of v) v ≡ true → is_plain_in family.Exact syntax.OctetString (texts_of v) v ≡ true
-plain_exact v h = first (is_plain_in family.Exact syntax.OctetString (texts_of v) v) (is_plain_in family.Ignore syntax.OctetString (texts_of v) v) (is_plain_in family.Numeric syntax.NumericString (texts_of v) v) (is_plain_in family.Telephone syntax.TelephoneNumber (texts_of v) v) h
+plain_exact : (v : List ℕ) → are_plain (texts_of v) v ≡ true → is_plain_in family.Exact syntax.OctetString
+    (texts_of v) v ≡ true
+plain_exact v h = first (is_plain_in family.Exact syntax.OctetString (texts_of v) v)
+    (is_plain_in family.Ignore syntax.OctetString (texts_of v) v) (is_plain_in family.Numeric syntax.NumericString
+    (texts_of v) v) (is_plain_in family.Telephone syntax.TelephoneNumber (texts_of v) v) h
 
-plain_ignore : (v : List ℕ) → are_plain (texts_of v) v ≡ true → is_plain_in family.Ignore syntax.OctetString (texts_of v) v ≡ true
-plain_ignore v h = second (is_plain_in family.Exact syntax.OctetString (texts_of v) v) (is_plain_in family.Ignore syntax.OctetString (texts_of v) v) (is_plain_in family.Numeric syntax.NumericString (texts_of v) v) (is_plain_in family.Telephone syntax.TelephoneNumber (texts_of v) v) h
+plain_ignore : (v : List ℕ) → are_plain (texts_of v) v ≡ true → is_plain_in family.Ignore syntax.OctetString
+    (texts_of v) v ≡ true
+plain_ignore v h = second (is_plain_in family.Exact syntax.OctetString (texts_of v) v)
+    (is_plain_in family.Ignore syntax.OctetString (texts_of v) v) (is_plain_in family.Numeric syntax.NumericString
+    (texts_of v) v) (is_plain_in family.Telephone syntax.TelephoneNumber (texts_of v) v) h
 
-plain_numeric : (v : List ℕ) → are_plain (texts_of v) v ≡ true → is_plain_in family.Numeric syntax.NumericString (texts_of v) v ≡ true
-plain_numeric v h = third (is_plain_in family.Exact syntax.OctetString (texts_of v) v) (is_plain_in family.Ignore syntax.OctetString (texts_of v) v) (is_plain_in family.Numeric syntax.NumericString (texts_of v) v) (is_plain_in family.Telephone syntax.TelephoneNumber (texts_of v) v) h
+plain_numeric : (v : List ℕ) → are_plain (texts_of v) v ≡ true → is_plain_in family.Numeric syntax.NumericString
+    (texts_of v) v ≡ true
+plain_numeric v h = third (is_plain_in family.Exact syntax.OctetString (texts_of v) v)
+    (is_plain_in family.Ignore syntax.OctetString (texts_of v) v) (is_plain_in family.Numeric syntax.NumericString
+    (texts_of v) v) (is_plain_in family.Telephone syntax.TelephoneNumber (texts_of v) v) h
 
-plain_telephone : (v : List ℕ) → are_plain (texts_of v) v ≡ true → is_plain_in family.Telephone syntax.TelephoneNumber (texts_of v) v ≡ true
-plain_telephone v h = fourth (is_plain_in family.Exact syntax.OctetString (texts_of v) v) (is_plain_in family.Ignore syntax.OctetString (texts_of v) v) (is_plain_in family.Numeric syntax.NumericString (texts_of v) v) (is_plain_in family.Telephone syntax.TelephoneNumber (texts_of v) v) h
+plain_telephone : (v : List ℕ) → are_plain (texts_of v) v ≡ true → is_plain_in family.Telephone syntax.TelephoneNumber
+    (texts_of v) v ≡ true
+plain_telephone v h = fourth (is_plain_in family.Exact syntax.OctetString (texts_of v) v)
+    (is_plain_in family.Ignore syntax.OctetString (texts_of v) v) (is_plain_in family.Numeric syntax.NumericString
+    (texts_of v) v) (is_plain_in family.Telephone syntax.TelephoneNumber (texts_of v) v) h
 
 -- a family's text of a value, whatever the syntax, or of one that is in the syntax
 data Texted (f : Family) (x : Syntax) (v : List ℕ) : Type 0 where
-  anywhere : text_in (texts_of v) f ≡ key_in f v → (are_plain (texts_of v) v ≡ true → is_that (plain_text f v) (text_in (texts_of v) f) ≡ true) → Texted f x v
-  inside : text_in (texts_of v) f ≡ cond (is_in_syntax x v) (key_in f v) None → (are_plain (texts_of v) v ≡ true → (not (is_in_syntax x v) || is_that (plain_text f v) (text_in (texts_of v) f)) ≡ true) → Texted f x v
+  anywhere : text_in (texts_of v) f ≡ key_in f v → (are_plain (texts_of v) v ≡ true →
+      is_that (plain_text f v) (text_in (texts_of v) f) ≡ true) → Texted f x v
+  inside : text_in (texts_of v) f ≡ cond (is_in_syntax x v) (key_in f v) None → (are_plain (texts_of v) v ≡ true →
+      (not (is_in_syntax x v) || is_that (plain_text f v) (text_in (texts_of v) f)) ≡ true) → Texted f x v
 
 texted : (f : Family) (x : Syntax) (v : List ℕ) → is_used_on f x ≡ true → is_textual x ≡ true → Texted f x v
 texted family.Identifier syntax.Boolean v u t = absurd (cc)
@@ -155,11 +169,13 @@ texted family.Ia5Exact syntax.OctetString v u t = absurd (cc)
 texted family.Ia5Exact syntax.TelephoneNumber v u t = absurd (cc)
 
 -- what is kept
-by_in : (less : Bool) (k : List ℕ) (b : Bool) (x t : Option (List ℕ)) → t ≡ x → (b && is_met_by less k t) ≡ is_met_by less k (cond b x None)
+by_in : (less : Bool) (k : List ℕ) (b : Bool) (x t : Option (List ℕ)) → t ≡ x → (b && is_met_by less k t) ≡
+    is_met_by less k (cond b x None)
 by_in less k true x t e = ap (is_met_by less k) e
 by_in less k false x t e = refl
 
-by_in_twice : (less : Bool) (k : List ℕ) (b : Bool) (x t : Option (List ℕ)) → t ≡ cond b x None → (b && is_met_by less k t) ≡ is_met_by less k (cond b x None)
+by_in_twice : (less : Bool) (k : List ℕ) (b : Bool) (x t : Option (List ℕ)) → t ≡ cond b x None →
+    (b && is_met_by less k t) ≡ is_met_by less k (cond b x None)
 by_in_twice less k true x t e = ap (is_met_by less k) e
 by_in_twice less k false x t e = refl
 
@@ -168,31 +184,37 @@ that_is : (w : List ℕ) (o : Option (List ℕ)) → is_that w o ≡ true → o 
 that_is w None h = absurd (cc)
 that_is w (Some x) h = ap Some (sym ((bytes_eq-Decides w x).0 h))
 
-plain_in : (less : Bool) (k w : List ℕ) (b : Bool) (x t : Option (List ℕ)) → t ≡ x → is_that w t ≡ true → (b && is_met less k w) ≡ is_met_by less k (cond b x None)
+plain_in : (less : Bool) (k w : List ℕ) (b : Bool) (x t : Option (List ℕ)) → t ≡ x → is_that w t ≡ true →
+    (b && is_met less k w) ≡ is_met_by less k (cond b x None)
 plain_in less k w true x t e h = sym (ap (is_met_by less k) (sym e ∙ that_is w t h))
 plain_in less k w false x t e h = refl
 
-plain_in_twice : (less : Bool) (k w : List ℕ) (b : Bool) (x t : Option (List ℕ)) → t ≡ cond b x None → (not b || is_that w t) ≡ true → (b && is_met less k w) ≡ is_met_by less k (cond b x None)
+plain_in_twice : (less : Bool) (k w : List ℕ) (b : Bool) (x t : Option (List ℕ)) → t ≡ cond b x None →
+    (not b || is_that w t) ≡ true → (b && is_met less k w) ≡ is_met_by less k (cond b x None)
 plain_in_twice less k w true x t e h = sym (ap (is_met_by less k) (sym e ∙ that_is w t h))
 plain_in_twice less k w false x t e h = refl
 
 module _ (f : Family) (x : Syntax) (less : Bool) (k v : List ℕ) where
   abbrev Tells : Bool → Type 0
-  Tells b = (is_in_syntax x v && form_meets f less k (cond b None (Some (texts_of v))) v) ≡ is_met_by less k (cond (is_in_syntax x v) (key_in f v) None)
+  Tells b = (is_in_syntax x v && form_meets f less k (cond b None (Some (texts_of v))) v) ≡ is_met_by less k
+      (cond (is_in_syntax x v) (key_in f v) None)
 
   kept : Texted f x v → Tells false
   kept (anywhere e h) = by_in less k (is_in_syntax x v) (key_in f v) (text_in (texts_of v) f) e
   kept (inside e h) = by_in_twice less k (is_in_syntax x v) (key_in f v) (text_in (texts_of v) f) e
 
   plain : Texted f x v → are_plain (texts_of v) v ≡ true → Tells true
-  plain (anywhere e h) p = plain_in less k (plain_text f v) (is_in_syntax x v) (key_in f v) (text_in (texts_of v) f) e (h p)
-  plain (inside e h) p = plain_in_twice less k (plain_text f v) (is_in_syntax x v) (key_in f v) (text_in (texts_of v) f) e (h p)
+  plain (anywhere e h) p = plain_in less k (plain_text f v) (is_in_syntax x v) (key_in f v) (text_in (texts_of v) f) e
+      (h p)
+  plain (inside e h) p = plain_in_twice less k (plain_text f v) (is_in_syntax x v) (key_in f v)
+      (text_in (texts_of v) f) e (h p)
 
   by : (b : Bool) → are_plain (texts_of v) v ≡ b → Texted f x v → Tells b
   by true p t = plain t p
   by false p t = kept t
 
-  pub told : is_used_on f x ≡ true → is_textual x ≡ true → is_text_met (record { family = f; syntax = x }) less k v ≡ is_met_by less k (key_at (record { family = f; syntax = x }) v)
+  pub told : is_used_on f x ≡ true → is_textual x ≡ true → is_text_met (record { family = f; syntax = x }) less k v ≡
+      is_met_by less k (key_at (record { family = f; syntax = x }) v)
   told u t = by (are_plain (texts_of v) v) refl (texted f x v u t)
 
 none_is : (o : Option (List ℕ)) → is_some o ≡ false → None ≡ o

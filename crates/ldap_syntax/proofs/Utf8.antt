@@ -28,11 +28,15 @@ lead_rises h = record { at = λ x y xs ys l. head_less (h + x) (h + y) xs ys (om
 
 further_rises : (row : ℕ → List ℕ) → Rises row → Rises (further row)
 further_rises row r = record { at = λ x y xs ys l. by_high row r x y xs ys l (three (x / 64) (y / 64)) } where
-  by_high : (row : ℕ → List ℕ) → Rises row → (x y : ℕ) (xs ys : List ℕ) → x < y → Three (x / 64) (y / 64) → is_before (further row x ++ xs) (further row y ++ ys) ≡ true
+  by_high : (row : ℕ → List ℕ) → Rises row → (x y : ℕ) (xs ys : List ℕ) → x < y → Three (x / 64) (y / 64) →
+      is_before (further row x ++ xs) (further row y ++ ys) ≡ true
   by_high row r x y xs ys l (three_less h) =
-      ap₂ is_before (append_assoc (row (x / 64)) ((128 + x % 64) ∷ []) xs) (append_assoc (row (y / 64)) ((128 + y % 64) ∷ []) ys) ∙ r.at (x / 64) (y / 64) ((128 + x % 64) ∷ xs) ((128 + y % 64) ∷ ys) h
+      ap₂ is_before (append_assoc (row (x / 64)) ((128 + x % 64) ∷ []) xs)
+      (append_assoc (row (y / 64)) ((128 + y % 64) ∷ []) ys) ∙ r.at (x / 64) (y / 64) ((128 + x % 64) ∷ xs)
+      ((128 + y % 64) ∷ ys) h
   by_high row r x y xs ys l (three_same e) =
-      ap₂ is_before (append_assoc (row (x / 64)) ((128 + x % 64) ∷ []) xs) (append_assoc (row (y / 64)) ((128 + y % 64) ∷ []) ys ∙ ap (λ (n : ℕ). row n ++ (128 + y % 64) ∷ ys) (sym e))
+      ap₂ is_before (append_assoc (row (x / 64)) ((128 + x % 64) ∷ []) xs)
+      (append_assoc (row (y / 64)) ((128 + y % 64) ∷ []) ys ∙ ap (λ (n : ℕ). row n ++ (128 + y % 64) ∷ ys) (sym e))
       ∙ prefix_same (row (x / 64)) ((128 + x % 64) ∷ xs) ((128 + y % 64) ∷ ys)
       ∙ head_less (128 + x % 64) (128 + y % 64) xs ys (omega arith)
   by_high row r x y xs ys l (three_more h) = absurd (omega arith)
@@ -75,19 +79,28 @@ three_rises : Rises three_of
 three_rises = further_rises (further (lead 224)) (further_rises (lead 224) (lead_rises 224))
 
 four_rises : Rises four
-four_rises = further_rises (further (further (lead 240))) (further_rises (further (lead 240)) (further_rises (lead 240) (lead_rises 240)))
+four_rises = further_rises (further (further (lead 240))) (further_rises (further (lead 240))
+    (further_rises (lead 240) (lead_rises 240)))
 
 -- the greater of two characters has the greater octets
-greater : (x y : ℕ) (xs ys : List ℕ) → x < y → Spelled x → Spelled y → is_before (encode x ++ xs) (encode y ++ ys) ≡ true
+greater : (x y : ℕ) (xs ys : List ℕ) → x < y → Spelled x → Spelled y → is_before (encode x ++ xs) (encode y ++ ys) ≡
+    true
 greater x y xs ys l (in_one a e) (in_one b f) = rw (e, f) (head_less x y xs ys l)
-greater x y xs ys l (in_one a e) (in_two b c f) = rw (e, f) (head_less x (192 + y / 64) xs ((128 + y % 64) ∷ ys) (omega arith))
-greater x y xs ys l (in_one a e) (in_three b c f) = rw (e, f) (head_less x (224 + y / 64 / 64) xs ((128 + y / 64 % 64) ∷ (128 + y % 64) ∷ ys) (omega arith))
-greater x y xs ys l (in_one a e) (in_four b f) = rw (e, f) (head_less x (240 + y / 64 / 64 / 64) xs ((128 + y / 64 / 64 % 64) ∷ (128 + y / 64 % 64) ∷ (128 + y % 64) ∷ ys) (omega arith))
+greater x y xs ys l (in_one a e) (in_two b c f) = rw (e, f) (head_less x (192 + y / 64) xs ((128 + y % 64) ∷ ys)
+    (omega arith))
+greater x y xs ys l (in_one a e) (in_three b c f) = rw (e, f) (head_less x (224 + y / 64 / 64) xs
+    ((128 + y / 64 % 64) ∷ (128 + y % 64) ∷ ys) (omega arith))
+greater x y xs ys l (in_one a e) (in_four b f) = rw (e, f) (head_less x (240 + y / 64 / 64 / 64) xs
+    ((128 + y / 64 / 64 % 64) ∷ (128 + y / 64 % 64) ∷ (128 + y % 64) ∷ ys) (omega arith))
 greater x y xs ys l (in_two a b e) (in_two c d f) = rw (e, f) (two_rises.at x y xs ys l)
-greater x y xs ys l (in_two a b e) (in_three c d f) = rw (e, f) (head_less (192 + x / 64) (224 + y / 64 / 64) ((128 + x % 64) ∷ xs) ((128 + y / 64 % 64) ∷ (128 + y % 64) ∷ ys) (omega arith))
-greater x y xs ys l (in_two a b e) (in_four c f) = rw (e, f) (head_less (192 + x / 64) (240 + y / 64 / 64 / 64) ((128 + x % 64) ∷ xs) ((128 + y / 64 / 64 % 64) ∷ (128 + y / 64 % 64) ∷ (128 + y % 64) ∷ ys) (omega arith))
+greater x y xs ys l (in_two a b e) (in_three c d f) = rw (e, f) (head_less (192 + x / 64) (224 + y / 64 / 64)
+    ((128 + x % 64) ∷ xs) ((128 + y / 64 % 64) ∷ (128 + y % 64) ∷ ys) (omega arith))
+greater x y xs ys l (in_two a b e) (in_four c f) = rw (e, f) (head_less (192 + x / 64) (240 + y / 64 / 64 / 64)
+    ((128 + x % 64) ∷ xs) ((128 + y / 64 / 64 % 64) ∷ (128 + y / 64 % 64) ∷ (128 + y % 64) ∷ ys) (omega arith))
 greater x y xs ys l (in_three a b e) (in_three c d f) = rw (e, f) (three_rises.at x y xs ys l)
-greater x y xs ys l (in_three a b e) (in_four c f) = rw (e, f) (head_less (224 + x / 64 / 64) (240 + y / 64 / 64 / 64) ((128 + x / 64 % 64) ∷ (128 + x % 64) ∷ xs) ((128 + y / 64 / 64 % 64) ∷ (128 + y / 64 % 64) ∷ (128 + y % 64) ∷ ys) (omega arith))
+greater x y xs ys l (in_three a b e) (in_four c f) = rw (e, f) (head_less (224 + x / 64 / 64) (240 + y / 64 / 64 / 64)
+    ((128 + x / 64 % 64) ∷ (128 + x % 64) ∷ xs) ((128 + y / 64 / 64 % 64) ∷ (128 + y / 64 % 64) ∷ (128 + y % 64) ∷ ys)
+    (omega arith))
 greater x y xs ys l (in_four a e) (in_four c f) = rw (e, f) (four_rises.at x y xs ys l)
 greater x y xs ys l (in_two a b e) (in_one c f) = absurd (omega arith)
 greater x y xs ys l (in_three a b e) (in_one c f) = absurd (omega arith)
@@ -109,13 +122,16 @@ not_true : (b : Bool) → (b ≡ true → ⊥) → b ≡ false
 not_true true h = absurd (h refl)
 not_true false h = refl
 
-by_first : (x y : ℕ) (xs ys : List ℕ) → Three x y → is_before (encode_utf8_all xs) (encode_utf8_all ys) ≡ is_before xs ys → is_before (encode_utf8_all (x ∷ xs)) (encode_utf8_all (y ∷ ys)) ≡ is_before (x ∷ xs) (y ∷ ys)
+by_first : (x y : ℕ) (xs ys : List ℕ) → Three x y → is_before (encode_utf8_all xs) (encode_utf8_all ys) ≡ is_before xs
+    ys → is_before (encode_utf8_all (x ∷ xs)) (encode_utf8_all (y ∷ ys)) ≡ is_before (x ∷ xs) (y ∷ ys)
 by_first x y xs ys (three_less l) rest = greater_first x y _ _ l ∙ sym (head_less x y xs ys l)
 by_first x y xs ys (three_same e) rest =
     subst (λ (n : ℕ). is_before (encode_utf8_all (x ∷ xs)) (encode_utf8_all (n ∷ ys)) ≡ is_before (x ∷ xs) (n ∷ ys)) e
     (prefix_same (encode x) (encode_utf8_all xs) (encode_utf8_all ys) ∙ rest ∙ sym (prefix_same (x ∷ []) xs ys))
 by_first x y xs ys (three_more l) rest =
-    not_true (is_before (encode_utf8_all (x ∷ xs)) (encode_utf8_all (y ∷ ys))) (λ h. not_both_before (encode_utf8_all (x ∷ xs)) (encode_utf8_all (y ∷ ys)) h (greater_first y x (encode_utf8_all ys) (encode_utf8_all xs) l))
+    not_true (is_before (encode_utf8_all (x ∷ xs)) (encode_utf8_all (y ∷ ys)))
+    (λ h. not_both_before (encode_utf8_all (x ∷ xs)) (encode_utf8_all (y ∷ ys)) h
+    (greater_first y x (encode_utf8_all ys) (encode_utf8_all xs) l))
     ∙ sym (not_true (is_before (x ∷ xs) (y ∷ ys)) (λ h. not_both_before (x ∷ xs) (y ∷ ys) h (head_less y x ys xs l)))
 
 -- octets of texts are in order where the texts are

@@ -20,7 +20,8 @@ use Rattle.ldap_syntax.specs.Styles.{text_by}
 abbrev pub between : List ℕ → List ℕ
 between v = 32 ∷ v ++ 32 ∷ []
 
--- a family's text of octets that preparation leaves as they are, but for their case and for SPACEs and hyphens among and round them
+-- a family's text of octets that preparation leaves as they are, but for their case and for SPACEs and hyphens among
+-- and round them
 abbrev pub plain_text : Family → List ℕ → List ℕ
 plain_text family.Ignore v = between (text_by style.Lowered v)
 plain_text family.Ia5 v = between (text_by style.Lowered v)
@@ -120,4 +121,5 @@ is_text_met r less k v = has_met r less k (form_of v) v
 
 -- A value's texts tell what its key tells, under each rule of text.
 abbrev pub TextsTell : Type 0
-TextsTell = (r : Rule) (less : Bool) (k v : List ℕ) → is_used_on r.family r.syntax ≡ true → is_textual r.syntax ≡ true → is_text_met r less k v ≡ is_met_by less k (key_at r v)
+TextsTell = (r : Rule) (less : Bool) (k v : List ℕ) → is_used_on r.family r.syntax ≡ true → is_textual r.syntax ≡
+    true → is_text_met r less k v ≡ is_met_by less k (key_at r v)

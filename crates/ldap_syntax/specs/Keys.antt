@@ -1,4 +1,5 @@
--- Keys: octets that are equal, and in byte order, as meanings are. No statement above the evaluation of filters names them.
+-- Keys: octets that are equal, and in byte order, as meanings are. No statement above the evaluation of filters names
+-- them.
 use Rattle.std.specs.Prelude.{ℕ, ◌-◌, List, [], ◌∷◌, ◌++◌, true, cond, nat_eq, map, Option, None, Some, is_some, encode_utf8_all, ◌≡◌, ◌↔◌}
 use Rattle.ldap_words.specs.Numbers.{is_integer}
 use Rattle.ldap_words.specs.Identifiers.{is_numericoid}
@@ -51,13 +52,17 @@ KeysArePresentAsMeanings = (r : Rule) (v : List ℕ) → is_some (key_at r v) �
 
 -- Under one rule, keys are equal exactly where meanings are.
 abbrev pub KeysAreEqualAsMeanings : Type 0
-KeysAreEqualAsMeanings = (r : Rule) (v w : List ℕ) (m n : Meaning) (k l : List ℕ) → meaning r v ≡ Some m → meaning r w ≡ Some n → key_at r v ≡ Some k → key_at r w ≡ Some l → (k ≡ l) ↔ (m ≡ n)
+KeysAreEqualAsMeanings = (r : Rule) (v w : List ℕ) (m n : Meaning) (k l : List ℕ) → meaning r v ≡ Some m →
+    meaning r w ≡ Some n → key_at r v ≡ Some k → key_at r w ≡ Some l → (k ≡ l) ↔ (m ≡ n)
 
 -- Under a rule that orders, keys are in order exactly where meanings are.
 abbrev pub KeysAreOrderedAsMeanings : Type 0
-KeysAreOrderedAsMeanings = (r : Rule) (v w : List ℕ) (m n : Meaning) (k l : List ℕ) → is_ordering r.family ≡ true → meaning r v ≡ Some m → meaning r w ≡ Some n → key_at r v ≡ Some k → key_at r w ≡ Some l → (is_before k l ≡ true) ↔ IsLessMeaning m n
+KeysAreOrderedAsMeanings = (r : Rule) (v w : List ℕ) (m n : Meaning) (k l : List ℕ) → is_ordering r.family ≡ true →
+    meaning r v ≡ Some m → meaning r w ≡ Some n → key_at r v ≡ Some k → key_at r w ≡ Some l →
+    (is_before k l ≡ true) ↔ IsLessMeaning m n
 
 -- Under a rule with a substrings rule, a key has the keys of prepared parts exactly where the meaning has the parts.
 abbrev pub PartsStandAsMeanings : Type 0
-PartsStandAsMeanings = (r : Rule) (v : List ℕ) (m : Meaning) (k : List ℕ) (initial final : Option (List ℕ)) (any : List (List ℕ)) → has_substrings r.family ≡ true → meaning r v ≡ Some m → key_at r v ≡ Some k
+PartsStandAsMeanings = (r : Rule) (v : List ℕ) (m : Meaning) (k : List ℕ) (initial final : Option (List ℕ))
+    (any : List (List ℕ)) → has_substrings r.family ≡ true → meaning r v ≡ Some m → key_at r v ≡ Some k
     → HasParts (utf8_of initial) (map encode_utf8_all any) (utf8_of final) k ↔ MeaningHasParts initial any final m

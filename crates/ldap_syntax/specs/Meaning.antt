@@ -48,9 +48,11 @@ meaning r v = cond (is_in_syntax r.syntax v) (meaning_in r.family v) None
 
 -- Under a rule that is used on its syntax, a value means something exactly where it is in the syntax.
 abbrev pub ValuesOfTheSyntaxMean : Type 0
-ValuesOfTheSyntaxMean = (r : Rule) (v : List ℕ) → is_used_on r.family r.syntax ≡ true → is_some (meaning r v) ≡ is_in_syntax r.syntax v
+ValuesOfTheSyntaxMean = (r : Rule) (v : List ℕ) → is_used_on r.family r.syntax ≡ true → is_some (meaning r v) ≡
+    is_in_syntax r.syntax v
 
--- What a part of a substring assertion means under a rule: its prepared text; nothing, where it is no part of the syntax's
+-- What a part of a substring assertion means under a rule: its prepared text; nothing, where it is no part of the
+-- syntax's
 -- values or the rule's family has no substrings rule.
 abbrev pub part_meaning : Rule → Part → List ℕ → Option (List ℕ)
 part_meaning r part v = cond (has_substrings r.family && is_part_of r.syntax v) (spelled r.family part v) None

@@ -15,8 +15,10 @@ abbrev pub StandInOrder : List (List ℕ) → List ℕ → Type 0
 StandInOrder [] whole = Unit {0}
 StandInOrder (p ∷ ps) whole = Stands p (StandInOrder ps) whole
 
--- The initial part stands at the start, the final part at the end, and the others between them in order, none over another.
-pub record HasParts (initial : Option (List ℕ)) (any : List (List ℕ)) (final : Option (List ℕ)) (whole : List ℕ) : Type 0 where
+-- The initial part stands at the start, the final part at the end, and the others between them in order, none over
+-- another.
+pub record HasParts (initial : Option (List ℕ)) (any : List (List ℕ)) (final : Option (List ℕ)) (whole : List ℕ) :
+    Type 0 where
   pub middle : List ℕ
   pub ends : whole ≡ part_or_nothing initial ++ middle ++ part_or_nothing final
   pub between : StandInOrder any middle

@@ -29,7 +29,8 @@ are_digits_or_spaces v = list_all (λ c. is_digit c || nat_eq c 32) v
 abbrev pub is_printable : ℕ → Bool
 is_printable c =
     (nat_le 65 c && nat_le c 90) || (nat_le 97 c && nat_le c 122) || is_digit c || nat_eq c 32
-    || nat_eq c 39 || nat_eq c 40 || nat_eq c 41 || (nat_le 43 c && nat_le c 47) || nat_eq c 58 || nat_eq c 63 || nat_eq c 61
+    || nat_eq c 39 || nat_eq c 40 || nat_eq c 41 || (nat_le 43 c && nat_le c 47) || nat_eq c 58 || nat_eq c 63 ||
+    nat_eq c 61
 
 -- the octets of a Telephone Number (RFC 4517 3.3.31)
 abbrev pub are_printable : List ℕ → Bool

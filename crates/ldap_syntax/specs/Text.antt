@@ -10,12 +10,14 @@ use Rattle.ldap_syntax.specs.declared.preparing.Part.TheVariants.{Whole, Initial
 -- white space: the characters with the property White_Space (RFC 4518 2.2)
 abbrev pub is_white : ℕ → Bool
 is_white c =
-    (nat_le 0x9 c && nat_le c 0xD) || nat_eq c 0x20 || nat_eq c 0x85 || nat_eq c 0xA0 || nat_eq c 0x1680 || (nat_le 0x2000 c && nat_le c 0x200A)
+    (nat_le 0x9 c && nat_le c 0xD) || nat_eq c 0x20 || nat_eq c 0x85 || nat_eq c 0xA0 || nat_eq c 0x1680 ||
+    (nat_le 0x2000 c && nat_le c 0x200A)
     || nat_eq c 0x2028 || nat_eq c 0x2029 || nat_eq c 0x202F || nat_eq c 0x205F || nat_eq c 0x3000
 
 -- a control character that isn't white space (RFC 4518 2.2)
 abbrev pub is_control : ℕ → Bool
-is_control c = nat_le c 0x8 || (nat_le 0xE c && nat_le c 0x1F) || (nat_le 0x7F c && nat_le c 0x84) || (nat_le 0x86 c && nat_le c 0x9F)
+is_control c = nat_le c 0x8 || (nat_le 0xE c && nat_le c 0x1F) || (nat_le 0x7F c && nat_le c 0x84) || (nat_le 0x86 c
+    && nat_le c 0x9F)
 
 -- white space is mapped to SPACE (RFC 4518 2.2)
 abbrev pub mapped_character : ℕ → ℕ

@@ -4,7 +4,8 @@ use Rattle.ldap_words.specs.Numbers.{is_digit}
 
 -- two digits that write a number from low to high
 abbrev pub is_field : ℕ → ℕ → ℕ → ℕ → Bool
-is_field low high a b = is_digit a && is_digit b && nat_le low ((a - 48) * 10 + (b - 48)) && nat_le ((a - 48) * 10 + (b - 48)) high
+is_field low high a b = is_digit a && is_digit b && nat_le low ((a - 48) * 10 + (b - 48))
+    && nat_le ((a - 48) * 10 + (b - 48)) high
 
 -- four digits
 abbrev pub is_year : ℕ → ℕ → ℕ → ℕ → Bool

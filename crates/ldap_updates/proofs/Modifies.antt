@@ -41,12 +41,15 @@ operation_same v w e = sym (operation_back v) ∙ ap operation_at e ∙ operatio
 change_same : (v w : ChangeValue) → v.operation ≡ w.operation → v.modification ≡ w.modification → v ≡ w
 change_same v w e0 e1 =
     ap (λ (x : ModifyOperation). let r : ChangeValue = record { operation = x; modification = v.modification } in r) e0
-    ∙ ap (λ (x : PartialAttributeValue). let r : ChangeValue = record { operation = w.operation; modification = x } in r) e1
+    ∙ ap (λ (x : PartialAttributeValue). let r : ChangeValue = record { operation = w.operation; modification = x }
+    in r) e1
 
 change_one : IsOneValue IsChange
 change_one v w o p q =
-    let s = step (number_part 10 4) (number_unique 10 4) _ (modify_number v.operation) (modify_number w.operation) o p.rest p.first q in
-    let t = step HasPartialAttribute attribute_unique _ v.modification w.modification p.rest p.next.rest p.next.first s.next in
+    let s = step (number_part 10 4) (number_unique 10 4) _ (modify_number v.operation) (modify_number w.operation) o
+    p.rest p.first q in
+    let t = step HasPartialAttribute attribute_unique _ v.modification w.modification p.rest p.next.rest p.next.first
+    s.next in
     change_same v w (operation_same v.operation w.operation s.value) t.value
 
 pub change_unique : IsUnique HasChange
@@ -74,18 +77,24 @@ modify_one v w o p q =
 
 -- ---- exits of readers
 
-pub change_modification : (o x : List ℕ) (n : ℕ) → HasNumber o 10 4 n x → (k : ChangeValue) × IsChange k o → (a : PartialAttributeValue) × (rest : List ℕ) × HasPartialAttribute a x rest
-change_modification o x n p (v, h) = let s = step (number_part 10 4) (number_unique 10 4) _ n (modify_number v.operation) o x p h in (v.modification, s.next.rest, s.next.first)
+pub change_modification : (o x : List ℕ) (n : ℕ) → HasNumber o 10 4 n x → (k : ChangeValue) × IsChange k o →
+    (a : PartialAttributeValue) × (rest : List ℕ) × HasPartialAttribute a x rest
+change_modification o x n p (v, h) = let s = step (number_part 10 4) (number_unique 10 4) _ n
+    (modify_number v.operation) o x p h in (v.modification, s.next.rest, s.next.first)
 
-pub change_end : (o x y : List ℕ) (n : ℕ) (a : PartialAttributeValue) → HasNumber o 10 4 n x → HasPartialAttribute a x y → (k : ChangeValue) × IsChange k o → AreElements y
+pub change_end : (o x y : List ℕ) (n : ℕ) (a : PartialAttributeValue) → HasNumber o 10 4 n x →
+    HasPartialAttribute a x y → (k : ChangeValue) × IsChange k o → AreElements y
 change_end o x y n a p q (v, h) =
     let s = step (number_part 10 4) (number_unique 10 4) _ n (modify_number v.operation) o x p h in
     (step HasPartialAttribute attribute_unique _ a v.modification x y q s.next).next
 
-pub modify_changes : (o x d : List ℕ) → HasText o 4 d x → (m : ModifyRequestValue) × IsModifyRequest m o → (row : List ChangeValue) × (r : List ℕ) × HasPart (AreRow HasChange row) x 48 r
-modify_changes o x d p (v, h) = let s = step text_part (text_unique 4) _ d v.object o x p h in (v.changes, s.next.rest, s.next.first)
+pub modify_changes : (o x d : List ℕ) → HasText o 4 d x → (m : ModifyRequestValue) × IsModifyRequest m o →
+    (row : List ChangeValue) × (r : List ℕ) × HasPart (AreRow HasChange row) x 48 r
+modify_changes o x d p (v, h) = let s = step text_part (text_unique 4) _ d v.object o x p h
+    in (v.changes, s.next.rest, s.next.first)
 
-pub modify_end : (o x y d : List ℕ) (vs : List ChangeValue) → HasText o 4 d x → HasPart (AreRow HasChange vs) x 48 y → (m : ModifyRequestValue) × IsModifyRequest m o → AreElements y
+pub modify_end : (o x y d : List ℕ) (vs : List ChangeValue) → HasText o 4 d x → HasPart (AreRow HasChange vs) x 48 y →
+    (m : ModifyRequestValue) × IsModifyRequest m o → AreElements y
 modify_end o x y d vs p q (v, h) =
     let s = step text_part (text_unique 4) _ d v.object o x p h in
     (step changes_part changes_unique _ vs v.changes x y q s.next).next
@@ -101,7 +110,8 @@ operation_below Increment = omega arith
 below_four : (n : ℕ) → n < 4 → n < 2 ^ 63
 below_four n lt = omega arith
 
-change_written : (k : ChangeValue) (rest : List ℕ) → IsUtf8 k.modification.description → IsShort (change_bytes k) → HasChange k (change_bytes k ++ rest) rest
+change_written : (k : ChangeValue) (rest : List ℕ) → IsUtf8 k.modification.description → IsShort (change_bytes k) →
+    HasChange k (change_bytes k ++ rest) rest
 change_written k rest utf8 small =
     let a = number_bytes 10 (modify_number k.operation) in
     let b = attribute_bytes k.modification in
@@ -110,11 +120,13 @@ change_written k rest utf8 small =
     let whole : a ++ (b ++ []) ≡ a ++ b = ap (λ (x : List ℕ). a ++ x) (append-nil b) in
     part (IsChange k) 48 (change_content k) rest (omega arith) content (subst (IsChange k) whole (record {
       rest = b ++ [];
-      first = number 10 4 (modify_number k.operation) (b ++ []) (omega arith) below (below_four (modify_number k.operation) below);
+      first = number 10 4 (modify_number k.operation) (b ++ []) (omega arith) below
+          (below_four (modify_number k.operation) below);
       next = record { rest = []; first = attribute k.modification [] utf8 (right a b content); next = none };
     }))
 
-pub modify_written : (m : ModifyRequestValue) → IsModifyInRange m → IsShort (modify_content m) → IsModifyRequest m (modify_content m)
+pub modify_written : (m : ModifyRequestValue) → IsModifyInRange m → IsShort (modify_content m) →
+    IsModifyRequest m (modify_content m)
 modify_written m range small =
     let row = row_bytes change_bytes m.changes in
     let row_short = inner 48 row (right (element_bytes 4 m.object) (element_bytes 48 row) small) in
@@ -122,6 +134,14 @@ modify_written m range small =
     let In : List ℕ → Type 0 = AreRow HasChange m.changes in
     record {
       rest = element_bytes 48 row;
-      first = text m.object (element_bytes 48 row) range.object (inner 4 m.object (left (element_bytes 4 m.object) (element_bytes 48 row) small));
-      next = record { rest = []; first = subst (λ (o : List ℕ). HasPart In o 48 []) ends (part In 48 row [] (omega arith) row_short (rows HasChange change_bytes (λ k. IsUtf8 k.modification.description) change_written m.changes range.changes row_short)); next = none };
+      first = text m.object (element_bytes 48 row) range.object
+          (inner 4 m.object (left (element_bytes 4 m.object) (element_bytes 48 row) small));
+      next = record {
+        rest = [];
+        first = subst (λ (o : List ℕ). HasPart In o 48 []) ends
+            (part In 48 row [] (omega arith) row_short
+            (rows HasChange change_bytes (λ k. IsUtf8 k.modification.description) change_written m.changes range.changes
+            row_short));
+        next = none;
+      };
     }

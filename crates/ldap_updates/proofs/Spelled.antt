@@ -15,7 +15,8 @@ use Rattle.ldap_updates.specs.Written.{add_content, IsAddInRange}
 
 -- ---- adds
 
-full_attribute : (a : PartialAttributeValue) (rest : List ℕ) → IsUtf8 a.description × HasAValue a → IsShort (attribute_bytes a) → HasAttribute a (attribute_bytes a ++ rest) rest
+full_attribute : (a : PartialAttributeValue) (rest : List ℕ) → IsUtf8 a.description × HasAValue a →
+    IsShort (attribute_bytes a) → HasAttribute a (attribute_bytes a ++ rest) rest
 full_attribute a rest h small =
     let content = inner 48 (attribute_content a) small in
     part (IsAttribute a) 48 (attribute_content a) rest (omega arith) content (attribute_inside a h.0 content, h.1)
@@ -28,6 +29,13 @@ add a range small =
     let In : List ℕ → Type 0 = AreRow HasAttribute a.attributes in
     record {
       rest = element_bytes 48 row;
-      first = text a.entry (element_bytes 48 row) range.entry (inner 4 a.entry (left (element_bytes 4 a.entry) (element_bytes 48 row) small));
-      next = record { rest = []; first = subst (λ (o : List ℕ). HasPart In o 48 []) ends (part In 48 row [] (omega arith) row_short (rows HasAttribute attribute_bytes (λ x. IsUtf8 x.description × HasAValue x) full_attribute a.attributes range.attributes row_short)); next = none };
+      first = text a.entry (element_bytes 48 row) range.entry
+          (inner 4 a.entry (left (element_bytes 4 a.entry) (element_bytes 48 row) small));
+      next = record {
+        rest = [];
+        first = subst (λ (o : List ℕ). HasPart In o 48 []) ends
+            (part In 48 row [] (omega arith) row_short (rows HasAttribute attribute_bytes (λ x. IsUtf8 x.description
+            × HasAValue x) full_attribute a.attributes range.attributes row_short));
+        next = none;
+      };
     }

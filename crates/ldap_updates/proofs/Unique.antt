@@ -29,7 +29,8 @@ full_part_unique = part_unique (AreRow HasAttribute) (row_unique HasAttribute fu
 add_same : (v w : AddRequestValue) → v.entry ≡ w.entry → v.attributes ≡ w.attributes → v ≡ w
 add_same v w e0 e1 =
     ap (λ (x : List ℕ). let r : AddRequestValue = record { entry = x; attributes = v.attributes } in r) e0
-    ∙ ap (λ (x : List PartialAttributeValue). let r : AddRequestValue = record { entry = w.entry; attributes = x } in r) e1
+    ∙ ap (λ (x : List PartialAttributeValue). let r : AddRequestValue = record { entry = w.entry; attributes = x }
+    in r) e1
 
 pub add_one : IsOneValue IsAddRequest
 add_one v w o p q =

@@ -33,7 +33,8 @@ modify_content m = element_bytes 4 m.object ++ element_bytes 48 (row_bytes chang
 -- the content of a modifyDN
 abbrev pub modify_dn_content : ModifyDnRequestValue → List ℕ
 modify_dn_content d =
-    element_bytes 4 d.entry ++ element_bytes 4 d.newrdn ++ element_bytes 1 (flag_octets d.deleteoldrdn) ++ optional_bytes 128 d.new_superior
+    element_bytes 4 d.entry ++ element_bytes 4 d.newrdn ++ element_bytes 1 (flag_octets d.deleteoldrdn) ++
+    optional_bytes 128 d.new_superior
 
 -- texts are UTF-8
 pub record IsModifyInRange (m : ModifyRequestValue) : Type 0 where

@@ -9,7 +9,8 @@ use Rattle.std.proofs.lemmas.Map.Text.{is_eq-slice_cmp}
 use Rattle.ldap_words.specs.NameOrder.{order}
 
 -- what holds of each element holds of the one at a place
-pub all_at : {X : Type 0} (P : X → Type 0) (xs : List X) (j : ℕ) (d : X) → j < length xs → AllByRecursion P xs → P (get_or xs j d)
+pub all_at : {X : Type 0} (P : X → Type 0) (xs : List X) (j : ℕ) (d : X) → j < length xs → AllByRecursion P xs →
+    P (get_or xs j d)
 all_at P [] j d lt h = absurd (omega (arith, lt))
 all_at P (x ∷ xs) zero d lt h = h.0
 all_at P (x ∷ xs) (suc j) d lt h = all_at P xs j d (omega (arith, lt)) h.1
@@ -39,5 +40,6 @@ ended : (rest : List ℕ) → length rest ≡ 0 → rest ≡ []
 ended [] h = refl
 ended (x ∷ rest) h = absurd (omega (arith, h))
 
-pub longer : (kept rest : List ℕ) (i : ℕ) (f : ℕ → ℕ) → i < length kept → length rest ≡ 0 → Greater ≡ order (drop i kept) (map f rest)
+pub longer : (kept rest : List ℕ) (i : ℕ) (f : ℕ → ℕ) → i < length kept → length rest ≡ 0 →
+    Greater ≡ order (drop i kept) (map f rest)
 longer kept rest i f lt h = goes_on kept i lt ∙ ap (λ (r : List ℕ). order (drop i kept) (map f r)) (sym (ended rest h))

@@ -7,6 +7,7 @@ first true row rest e = refl
 first false row rest e = absurd (cc)
 
 -- a row that isn't
-pub later : {A : Type 0} {found : A} (asked : Bool) (row rest : A) → false ≡ asked → found ≡ rest → found ≡ cond asked row rest
+pub later : {A : Type 0} {found : A} (asked : Bool) (row rest : A) → false ≡ asked → found ≡ rest →
+    found ≡ cond asked row rest
 later true row rest e h = absurd (cc)
 later false row rest e h = h

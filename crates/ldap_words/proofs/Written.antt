@@ -21,8 +21,10 @@ pub record IsWritten (cs : List ℕ) : Type 0 where
 pub whole_is_written : (cs : List ℕ) → is_whole cs ≡ true → IsWritten cs
 whole_is_written [] h = cc
 whole_is_written (c ∷ cs) h =
-    let low : nat_lt 48 c ≡ true = and_left (nat_lt 48 c) (nat_le c 57) (and_left (nat_lt 48 c && nat_le c 57) (are_digits cs) h) in
-    let high : nat_le c 57 ≡ true = and_right (nat_lt 48 c) (nat_le c 57) (and_left (nat_lt 48 c && nat_le c 57) (are_digits cs) h) in
+    let low : nat_lt 48 c ≡ true = and_left (nat_lt 48 c) (nat_le c 57) (and_left (nat_lt 48 c && nat_le c 57)
+    (are_digits cs) h) in
+    let high : nat_le c 57 ≡ true = and_right (nat_lt 48 c) (nat_le c 57) (and_left (nat_lt 48 c && nat_le c 57)
+    (are_digits cs) h) in
     let below : 48 < c = ltb-true 48 c low in
     record {
       digits = rw (and_right (nat_lt 48 c && nat_le c 57) (are_digits cs) h) (grind (arith, nat_tests, below, high));

@@ -47,7 +47,8 @@ substrings_family w =
     (cond (is_rule (codes "caseExactSubstringsMatch") (codes "2.5.13.7") w) (Some family.Exact)
     (cond (is_rule (codes "numericStringSubstringsMatch") (codes "2.5.13.10") w) (Some family.Numeric)
     (cond (is_rule (codes "telephoneNumberSubstringsMatch") (codes "2.5.13.21") w) (Some family.Telephone)
-    (cond (is_rule (codes "caseIgnoreIA5SubstringsMatch") (codes "1.3.6.1.4.1.1466.109.114.3") w) (Some family.Ia5) None))))
+    (cond (is_rule (codes "caseIgnoreIA5SubstringsMatch") (codes "1.3.6.1.4.1.1466.109.114.3") w) (Some family.Ia5)
+    None))))
 
 -- the syntaxes that `syntax_of` doesn't name itself (RFC 4517 3.3)
 abbrev pub other_syntax : List ℕ → Option Syntax

@@ -26,7 +26,8 @@ or_left true b h = absurd cc
 or_left false b h = refl
 
 safe_no_space : (c : ℕ) → is_safe_first c ≡ true → nat_eq c 32 ≡ false
-safe_no_space c h = or_left (nat_eq c 32) (nat_eq c 58) (or_left (nat_eq c 32 || nat_eq c 58) (nat_eq c 60) (not_true (nat_eq c 32 || nat_eq c 58 || nat_eq c 60) h))
+safe_no_space c h = or_left (nat_eq c 32) (nat_eq c 58) (or_left (nat_eq c 32 || nat_eq c 58) (nat_eq c 60)
+    (not_true (nat_eq c 32 || nat_eq c 58 || nat_eq c 60) h))
 
 stands : (c : ℕ) (cs : List ℕ) → nat_eq c 32 ≡ false → past_spaces (c ∷ cs) ≡ c ∷ cs
 stands c cs e = ap (λ b. cond b (past_spaces cs) (c ∷ cs)) e
@@ -34,12 +35,14 @@ stands c cs e = ap (λ b. cond b (past_spaces cs) (c ∷ cs)) e
 symbols_stand : (v : List ℕ) → list_all is_symbol v ≡ true → past_spaces v ≡ v
 symbols_stand [] h = refl
 symbols_stand (c ∷ cs) h =
-    stands c cs (not_true (nat_eq c 32) (right (not (nat_eq 10 c) && not (nat_eq c 13)) (not (nat_eq c 32)) (left (is_symbol c) (list_all is_symbol cs) h)))
+    stands c cs (not_true (nat_eq c 32) (right (not (nat_eq 10 c) && not (nat_eq c 13)) (not (nat_eq c 32))
+    (left (is_symbol c) (list_all is_symbol cs) h)))
 
 part_back : (b : Bool) (c : ℕ) (cs : List ℕ) → is_safe (c ∷ cs) ≡ b → are_octets (c ∷ cs) ≡ true
     → octets_of (cond b (32 ∷ c ∷ cs) (58 ∷ 32 ∷ encode_of standard (c ∷ cs))) ≡ Some (c ∷ cs)
 part_back true c cs e h =
-    ap Some (stands c cs (safe_no_space c (left (is_safe_first c) (list_all is_safe_octet (c ∷ cs)) (left (is_safe_first c && list_all is_safe_octet (c ∷ cs)) (not (ends_with_space (c ∷ cs))) e))))
+    ap Some (stands c cs (safe_no_space c (left (is_safe_first c) (list_all is_safe_octet (c ∷ cs))
+    (left (is_safe_first c && list_all is_safe_octet (c ∷ cs)) (not (ends_with_space (c ∷ cs))) e))))
 part_back false c cs e h =
     ap (λ v. result_ok (decode_of standard v)) (symbols_stand (encode_of standard (c ∷ cs)) (encoded_symbols (c ∷ cs)))
     ∙ ap result_ok (decode_of-encode_of standard (c ∷ cs) refl (bytes (c ∷ cs) h))
@@ -53,7 +56,8 @@ value_back (c ∷ cs) h = part_back (is_safe (c ∷ cs)) c cs refl h
 colon_len : (w part : List ℕ) → list_all is_plain w ≡ true → position_or_len (nat_eq 58) (w ++ 58 ∷ part) ≡ length w
 colon_len [] part h = refl
 colon_len (c ∷ cs) part h =
-    ap (λ b. cond (not b) (1 + position_or_len (nat_eq 58) (cs ++ 58 ∷ part)) 0) (unlike 58 c refl (left (is_plain c) (list_all is_plain cs) h))
+    ap (λ b. cond (not b) (1 + position_or_len (nat_eq 58) (cs ++ 58 ∷ part)) 0)
+    (unlike 58 c refl (left (is_plain c) (list_all is_plain cs) h))
     ∙ ap (λ n. 1 + n) (colon_len cs part (right (is_plain c) (list_all is_plain cs) h)) ∙ omega arith
 
 longer : (w part : List ℕ) → length w < length (w ++ 58 ∷ part)
@@ -69,16 +73,23 @@ behind w part =
     ap (drop (length w + 1)) (sym (append_assoc w (58 ∷ []) part))
     ∙ drop_at (w ++ 58 ∷ []) part (length w + 1) (length-append w (58 ∷ []) ∙ omega arith)
 
-colon_back : (w octets : List ℕ) → list_all is_plain w ≡ true → are_octets octets ≡ true → colon_says (pair_line w octets) (position (nat_eq 58) (pair_line w octets)) ≡ pair_says (is_encoded (value_part octets)) w (Some octets)
+colon_back : (w octets : List ℕ) → list_all is_plain w ≡ true → are_octets octets ≡ true →
+    colon_says (pair_line w octets) (position (nat_eq 58) (pair_line w octets)) ≡
+    pair_says (is_encoded (value_part octets)) w (Some octets)
 colon_back w octets h o =
     ap (colon_says (pair_line w octets)) (colon_at w (value_part octets) h)
-    ∙ ap (λ v. pair_says (is_encoded (drop (length w + 1) (pair_line w octets))) v (octets_of (drop (length w + 1) (pair_line w octets)))) (take_at w (58 ∷ value_part octets) (length w) refl)
+    ∙ ap (λ v. pair_says (is_encoded (drop (length w + 1) (pair_line w octets))) v
+    (octets_of (drop (length w + 1) (pair_line w octets)))) (take_at w (58 ∷ value_part octets) (length w) refl)
     ∙ ap (λ v. pair_says (is_encoded v) w (octets_of v)) (behind w (value_part octets))
     ∙ ap (pair_says (is_encoded (value_part octets)) w) (value_back octets o)
 
 -- a line of a type and a value says them
-pub pair_back : (c : ℕ) (cs octets : List ℕ) → list_all is_plain (c ∷ cs) ≡ true → are_octets octets ≡ true → line_says (pair_line (c ∷ cs) octets) ≡ pair_says (is_encoded (value_part octets)) (c ∷ cs) (Some octets)
+pub pair_back : (c : ℕ) (cs octets : List ℕ) → list_all is_plain (c ∷ cs) ≡ true → are_octets octets ≡ true →
+    line_says (pair_line (c ∷ cs) octets) ≡ pair_says (is_encoded (value_part octets)) (c ∷ cs) (Some octets)
 pair_back c cs octets h o =
-    ap (λ b. cond b comment (unlike_comment (pair_line (c ∷ cs) octets))) (flip 35 c (unlike 35 c refl (left (is_plain c) (list_all is_plain cs) h)))
-    ∙ ap (λ b. cond b (wrong ContinuesNothing) (colon_says (pair_line (c ∷ cs) octets) (position (nat_eq 58) (pair_line (c ∷ cs) octets)))) (flip 32 c (unlike 32 c refl (left (is_plain c) (list_all is_plain cs) h)))
+    ap (λ b. cond b comment (unlike_comment (pair_line (c ∷ cs) octets)))
+    (flip 35 c (unlike 35 c refl (left (is_plain c) (list_all is_plain cs) h)))
+    ∙ ap (λ b. cond b (wrong ContinuesNothing) (colon_says (pair_line (c ∷ cs) octets)
+    (position (nat_eq 58) (pair_line (c ∷ cs) octets))))
+    (flip 32 c (unlike 32 c refl (left (is_plain c) (list_all is_plain cs) h)))
     ∙ colon_back (c ∷ cs) octets h o

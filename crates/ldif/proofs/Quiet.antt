@@ -43,7 +43,8 @@ unlike k c n p = by (nat_eq k c) refl
 
 plain_quiet : (c : ℕ) → is_plain c ≡ true → is_quiet c ≡ true
 plain_quiet c p =
-    both (not (nat_eq 10 c)) (not (nat_eq c 13)) (not_false (nat_eq 10 c) (unlike 10 c refl p)) (not_false (nat_eq c 13) (flip 13 c (unlike 13 c refl p)))
+    both (not (nat_eq 10 c)) (not (nat_eq c 13)) (not_false (nat_eq 10 c) (unlike 10 c refl p))
+    (not_false (nat_eq c 13) (flip 13 c (unlike 13 c refl p)))
 
 safe_quiet : (c : ℕ) → is_safe_octet c ≡ true → is_quiet c ≡ true
 safe_quiet c h =
@@ -72,17 +73,21 @@ alphabet = refl
 symbol_at : (i : ℕ) → is_symbol (slice_index table i) ≡ true
 symbol_at i = passes_at is_symbol table i refl alphabet
 
-two_pass : (a b : ℕ) (xs : List ℕ) → is_symbol a ≡ true → is_symbol b ≡ true → list_all is_symbol xs ≡ true → list_all is_symbol (a ∷ b ∷ xs) ≡ true
-two_pass a b xs p q r = both (is_symbol a) (is_symbol b && list_all is_symbol xs) p (both (is_symbol b) (list_all is_symbol xs) q r)
+two_pass : (a b : ℕ) (xs : List ℕ) → is_symbol a ≡ true → is_symbol b ≡ true → list_all is_symbol xs ≡ true →
+    list_all is_symbol (a ∷ b ∷ xs) ≡ true
+two_pass a b xs p q r = both (is_symbol a) (is_symbol b && list_all is_symbol xs) p
+    (both (is_symbol b) (list_all is_symbol xs) q r)
 
-one_pass : (a : ℕ) (xs : List ℕ) → is_symbol a ≡ true → list_all is_symbol xs ≡ true → list_all is_symbol (a ∷ xs) ≡ true
+one_pass : (a : ℕ) (xs : List ℕ) → is_symbol a ≡ true → list_all is_symbol xs ≡ true → list_all is_symbol (a ∷ xs) ≡
+    true
 one_pass a xs p r = both (is_symbol a) (list_all is_symbol xs) p r
 
 symbols : (m : List ℕ) → list_all is_symbol (encode_symbols table m) ≡ true
 unfolding encode_symbols
 symbols [] = refl
 symbols (a ∷ []) =
-    two_pass (slice_index table (a / 4)) (slice_index table (a % 4 * 16)) [] (symbol_at (a / 4)) (symbol_at (a % 4 * 16)) refl
+    two_pass (slice_index table (a / 4)) (slice_index table (a % 4 * 16)) [] (symbol_at (a / 4))
+    (symbol_at (a % 4 * 16)) refl
 symbols (a ∷ b ∷ []) =
     two_pass (slice_index table (a / 4)) (slice_index table (a % 4 * 16 + b / 16)) (slice_index table (b % 16 * 4) ∷ [])
     (symbol_at (a / 4)) (symbol_at (a % 4 * 16 + b / 16))
@@ -101,19 +106,25 @@ padding (suc n) = padding n
 pub encoded_symbols : (m : List ℕ) → list_all is_symbol (encode_of standard m) ≡ true
 encoded_symbols m =
     list_all-append is_symbol (encode_symbols table m) (replicate (padding_len (length m)) 61)
-    ∙ both (list_all is_symbol (encode_symbols table m)) (list_all is_symbol (replicate (padding_len (length m)) 61)) (symbols m) (padding (padding_len (length m)))
+    ∙ both (list_all is_symbol (encode_symbols table m)) (list_all is_symbol (replicate (padding_len (length m)) 61))
+    (symbols m) (padding (padding_len (length m)))
 
-part_quiet : (b : Bool) (c : ℕ) (cs : List ℕ) → is_safe (c ∷ cs) ≡ b → list_all is_quiet (cond b (32 ∷ c ∷ cs) (58 ∷ 32 ∷ encode_of standard (c ∷ cs))) ≡ true
+part_quiet : (b : Bool) (c : ℕ) (cs : List ℕ) → is_safe (c ∷ cs) ≡ b →
+    list_all is_quiet (cond b (32 ∷ c ∷ cs) (58 ∷ 32 ∷ encode_of standard (c ∷ cs))) ≡ true
 part_quiet true c cs e =
     weaker is_safe_octet is_quiet (c ∷ cs) safe_quiet
-    (right (is_safe_first c) (list_all is_safe_octet (c ∷ cs)) (left (is_safe_first c && list_all is_safe_octet (c ∷ cs)) (not (ends_with_space (c ∷ cs))) e))
-part_quiet false c cs e = weaker is_symbol is_quiet (encode_of standard (c ∷ cs)) symbol_quiet (encoded_symbols (c ∷ cs))
+    (right (is_safe_first c) (list_all is_safe_octet (c ∷ cs))
+    (left (is_safe_first c && list_all is_safe_octet (c ∷ cs)) (not (ends_with_space (c ∷ cs))) e))
+part_quiet false c cs e = weaker is_symbol is_quiet (encode_of standard (c ∷ cs)) symbol_quiet
+    (encoded_symbols (c ∷ cs))
 
 value_quiet : (octets : List ℕ) → list_all is_quiet (value_part octets) ≡ true
 value_quiet [] = refl
 value_quiet (c ∷ cs) = part_quiet (is_safe (c ∷ cs)) c cs refl
 
-pub pair_quiet : (word octets : List ℕ) → list_all is_plain word ≡ true → list_all is_quiet (pair_line word octets) ≡ true
+pub pair_quiet : (word octets : List ℕ) → list_all is_plain word ≡ true → list_all is_quiet (pair_line word octets) ≡
+    true
 pair_quiet word octets h =
     list_all-append is_quiet word (58 ∷ value_part octets)
-    ∙ both (list_all is_quiet word) (list_all is_quiet (58 ∷ value_part octets)) (weaker is_plain is_quiet word plain_quiet h) (value_quiet octets)
+    ∙ both (list_all is_quiet word) (list_all is_quiet (58 ∷ value_part octets)) (weaker is_plain is_quiet word
+    plain_quiet h) (value_quiet octets)

@@ -16,8 +16,10 @@ first_too_long rs i id r lt is same long =
     (inl (subst (λ (k : ℕ). 2 ^ 32 ≤ length (message_content (add_message k r))) same long))
 
 -- what keeps an add from being written keeps the records from it
-pub put_to_ask : (e : ImportError) (rs : List RecordModel) (i id : ℕ) (r : RecordModel) → i < length rs → r ≡ get_or rs i r → id ≡ i + 1
-    → (HasTooLong (adds_from (i + 1) (drop i rs)) → HasTooLong (adds_from 1 rs)) → IsPutFault e (message_content (add_message id r)) → IsAskFault e rs
+pub put_to_ask : (e : ImportError) (rs : List RecordModel) (i id : ℕ) (r : RecordModel) → i < length rs →
+    r ≡ get_or rs i r → id ≡ i + 1
+    → (HasTooLong (adds_from (i + 1) (drop i rs)) → HasTooLong (adds_from 1 rs)) →
+    IsPutFault e (message_content (add_message id r)) → IsAskFault e rs
 put_to_ask (BadLdif line cause) rs i id r lt is same keeps h = absurd h
 put_to_ask TooLong rs i id r lt is same keeps h = keeps (first_too_long rs i id r lt is same h)
 put_to_ask TooManyRecords rs i id r lt is same keeps h = absurd h

@@ -28,12 +28,16 @@ before_folded n m (c ∷ cs) [] rest e = absurd cc
 before_folded n m (c ∷ cs) (d ∷ ds) [] e =
     sym (ap (λ b. cond b (line n (c ∷ (cs ++ ds)) ∷ []) (line n (c ∷ cs) ∷ line m (d ∷ ds) ∷ [])) e)
 before_folded n m (c ∷ cs) (d ∷ ds) (r ∷ rs) e =
-    ap (λ b. cond b (line n ((c ∷ (cs ++ ds)) ++ drop 1 r.text) ∷ rs) (line n (c ∷ (cs ++ ds)) ∷ r ∷ rs)) (same_test c d (cs ++ ds) ds r.text)
+    ap (λ b. cond b (line n ((c ∷ (cs ++ ds)) ++ drop 1 r.text) ∷ rs) (line n (c ∷ (cs ++ ds)) ∷ r ∷ rs))
+    (same_test c d (cs ++ ds) ds r.text)
     ∙ joined_head (continues (d ∷ ds) r.text) n m c d cs ds (drop 1 r.text) r rs e
 
-alone_head : (b : Bool) (m : ℕ) (a : LineModel) (t x : List ℕ) (r : LineModel) (rs : List LineModel) → continues a.text t ≡ false → (b ≡ true → continues a.text (t ++ x) ≡ false)
-    → before a (cond b (line m (t ++ x) ∷ rs) (line m t ∷ r ∷ rs)) ≡ a ∷ cond b (line m (t ++ x) ∷ rs) (line m t ∷ r ∷ rs)
-alone_head true m a t x r rs e f = ap (λ b. cond b (folded a (line m (t ++ x)) ∷ rs) (a ∷ line m (t ++ x) ∷ rs)) (f refl)
+alone_head : (b : Bool) (m : ℕ) (a : LineModel) (t x : List ℕ) (r : LineModel) (rs : List LineModel) →
+    continues a.text t ≡ false → (b ≡ true → continues a.text (t ++ x) ≡ false)
+    → before a (cond b (line m (t ++ x) ∷ rs) (line m t ∷ r ∷ rs)) ≡ a ∷ cond b (line m (t ++ x) ∷ rs)
+    (line m t ∷ r ∷ rs)
+alone_head true m a t x r rs e f = ap (λ b. cond b (folded a (line m (t ++ x)) ∷ rs) (a ∷ line m (t ++ x) ∷ rs))
+    (f refl)
 alone_head false m a t x r rs e f = ap (λ b. cond b (folded a (line m t) ∷ r ∷ rs) (a ∷ line m t ∷ r ∷ rs)) e
 
 more_continues : (s t x y : List ℕ) → continues s t ≡ false → continues t y ≡ true → continues s (t ++ x) ≡ false
@@ -45,9 +49,11 @@ more_continues (c ∷ cs) (d ∷ ds) x y e f = e
 before_alone : (m : ℕ) (a : LineModel) (t : List ℕ) (rest : List LineModel) → continues a.text t ≡ false
     → before a (before (line m t) rest) ≡ a ∷ before (line m t) rest
 before_alone m a t [] e = ap (λ b. cond b (folded a (line m t) ∷ []) (a ∷ line m t ∷ [])) e
-before_alone m a t (r ∷ rs) e = alone_head (continues t r.text) m a t (drop 1 r.text) r rs e (λ f. more_continues a.text t (drop 1 r.text) r.text e f)
+before_alone m a t (r ∷ rs) e = alone_head (continues t r.text) m a t (drop 1 r.text) r rs e
+    (λ f. more_continues a.text t (drop 1 r.text) r.text e f)
 
-resumed_last : (xs : List LineModel) (a : LineModel) (rest : List LineModel) → resumed (xs ++ a ∷ []) rest ≡ xs ++ before a rest
+resumed_last : (xs : List LineModel) (a : LineModel) (rest : List LineModel) → resumed (xs ++ a ∷ []) rest ≡
+    xs ++ before a rest
 resumed_last [] a rest = refl
 resumed_last (x ∷ []) a rest = refl
 resumed_last (x ∷ y ∷ ys) a rest = ap (λ l. x ∷ l) (resumed_last (y ∷ ys) a rest)
@@ -58,7 +64,8 @@ resumed_nil (x ∷ []) = refl
 resumed_nil (x ∷ y ∷ ys) = ap (λ l. x ∷ l) (resumed_nil (y ∷ ys))
 
 -- one that continues the last line
-pub puts_folded : (xs : List LineModel) (a : LineModel) (m : ℕ) (t : List ℕ) → continues a.text t ≡ true → Puts (xs ++ a ∷ []) (line m t) (xs ++ line a.number (a.text ++ drop 1 t) ∷ [])
+pub puts_folded : (xs : List LineModel) (a : LineModel) (m : ℕ) (t : List ℕ) → continues a.text t ≡ true →
+    Puts (xs ++ a ∷ []) (line m t) (xs ++ line a.number (a.text ++ drop 1 t) ∷ [])
 puts_folded xs a m t e = record {
   whatever_follows = λ rest.
       resumed_last xs (line a.number (a.text ++ drop 1 t)) rest
@@ -67,7 +74,8 @@ puts_folded xs a m t e = record {
 }
 
 -- one of its own
-pub puts_alone : (xs : List LineModel) (a : LineModel) (m : ℕ) (t : List ℕ) → continues a.text t ≡ false → Puts (xs ++ a ∷ []) (line m t) ((xs ++ a ∷ []) ++ line m t ∷ [])
+pub puts_alone : (xs : List LineModel) (a : LineModel) (m : ℕ) (t : List ℕ) → continues a.text t ≡ false →
+    Puts (xs ++ a ∷ []) (line m t) ((xs ++ a ∷ []) ++ line m t ∷ [])
 puts_alone xs a m t e = record {
   whatever_follows = λ rest.
       resumed_last (xs ++ a ∷ []) (line m t) rest
@@ -78,18 +86,24 @@ puts_alone xs a m t e = record {
 
 -- ---- the same, over what calls gave
 
-pub put_folded : (old xs new : List LineModel) (a b : LineModel) (m : ℕ) (s p q : List ℕ) → old ≡ xs ++ a ∷ [] → new ≡ xs ++ b ∷ [] → b ≡ line a.number (a.text ++ q) → q ≡ drop 1 p → s ≡ a.text
+pub put_folded : (old xs new : List LineModel) (a b : LineModel) (m : ℕ) (s p q : List ℕ) → old ≡ xs ++ a ∷ [] →
+    new ≡ xs ++ b ∷ [] → b ≡ line a.number (a.text ++ q) → q ≡ drop 1 p → s ≡ a.text
     → continues s p ≡ true → Puts old (line m p) new
 put_folded old xs new a b m s p q was is extended rest text e =
-    let h : Puts (xs ++ a ∷ []) (line m p) (xs ++ line a.number (a.text ++ drop 1 p) ∷ []) = puts_folded xs a m p (ap (λ t. continues t p) (sym text) ∙ e) in
-    let put : new ≡ xs ++ line a.number (a.text ++ drop 1 p) ∷ [] = is ∙ ap (λ l. xs ++ l ∷ []) (extended ∙ ap (λ t. line a.number (a.text ++ t)) rest) in
+    let h : Puts (xs ++ a ∷ []) (line m p) (xs ++ line a.number (a.text ++ drop 1 p) ∷ []) = puts_folded xs a m p
+    (ap (λ t. continues t p) (sym text) ∙ e) in
+    let put : new ≡ xs ++ line a.number (a.text ++ drop 1 p) ∷ [] = is ∙ ap (λ l. xs ++ l ∷ []) (extended
+    ∙ ap (λ t. line a.number (a.text ++ t)) rest) in
     rw (was, put) h
 
-pub put_alone : (old xs mid new : List LineModel) (a b : LineModel) (m : ℕ) (s p : List ℕ) → old ≡ xs ++ a ∷ [] → mid ≡ xs ++ a ∷ [] → new ≡ mid ++ b ∷ [] → b ≡ line m p → s ≡ a.text
+pub put_alone : (old xs mid new : List LineModel) (a b : LineModel) (m : ℕ) (s p : List ℕ) → old ≡ xs ++ a ∷ [] →
+    mid ≡ xs ++ a ∷ [] → new ≡ mid ++ b ∷ [] → b ≡ line m p → s ≡ a.text
     → continues s p ≡ false → Puts old (line m p) new
 put_alone old xs mid new a b m s p was back is made text e =
-    let h : Puts (xs ++ a ∷ []) (line m p) ((xs ++ a ∷ []) ++ line m p ∷ []) = puts_alone xs a m p (ap (λ t. continues t p) (sym text) ∙ e) in
-    let put : new ≡ (xs ++ a ∷ []) ++ line m p ∷ [] = is ∙ ap (λ l. l ++ b ∷ []) back ∙ ap (λ l. (xs ++ a ∷ []) ++ l ∷ []) made in
+    let h : Puts (xs ++ a ∷ []) (line m p) ((xs ++ a ∷ []) ++ line m p ∷ []) = puts_alone xs a m p
+    (ap (λ t. continues t p) (sym text) ∙ e) in
+    let put : new ≡ (xs ++ a ∷ []) ++ line m p ∷ [] = is ∙ ap (λ l. l ++ b ∷ []) back
+    ∙ ap (λ l. (xs ++ a ∷ []) ++ l ∷ []) made in
     rw (was, put) h
 
 pub drop_past : {A : Type 0} (i : ℕ) (xs : List A) → length xs ≤ i → drop i xs ≡ []

@@ -10,7 +10,8 @@ behind_is_no_hex : (ms : List Meant) (k : ℕ) → wrong_behind ms ≡ Some (Bad
 behind_is_no_hex [] k h = cc
 behind_is_no_hex (m ∷ ms) k h = cc
 
-end_is_no_hex : (b : Bool) (n : ℕ) (ms : List Meant) (k : ℕ) → cond b (wrong_behind ms) (Some (Code n)) ≡ Some (BadHexLine k) → ⊥
+end_is_no_hex : (b : Bool) (n : ℕ) (ms : List Meant) (k : ℕ) → cond b (wrong_behind ms) (Some (Code n)) ≡
+    Some (BadHexLine k) → ⊥
 end_is_no_hex true n ms k h = behind_is_no_hex ms k h
 end_is_no_hex false n ms k h = cc
 
@@ -21,7 +22,8 @@ wrong_is_no_hex (Done n ∷ ms) k h = end_is_no_hex (nat_eq n 0) n ms k h
 wrong_is_no_hex (Other ∷ ms) k h = cc
 
 -- what is wrong first keeps lines from being exported
-pub wrong_is_fault : (text : List ℕ) (ms : List Meant) (e : ExportError) → AreMeant text ms → first_wrong ms ≡ Some e → IsExportFault e text
+pub wrong_is_fault : (text : List ℕ) (ms : List Meant) (e : ExportError) → AreMeant text ms → first_wrong ms ≡
+    Some e → IsExportFault e text
 wrong_is_fault text ms (BadHexLine k) are h = absurd (wrong_is_no_hex ms k h)
 wrong_is_fault text ms (Code n) are h = record { meant = ms; are_meant = are; wrong = h }
 wrong_is_fault text ms NoDoneMessage are h = record { meant = ms; are_meant = are; wrong = h }

@@ -24,7 +24,8 @@ pub data AreRecords : List Says → List RecordModel → Type 0 where
   blank_before : {ss : List Says} {rs : List RecordModel} → AreRecords ss rs → AreRecords (blank ∷ ss) rs
   comment_before : {ss : List Says} {rs : List RecordModel} → AreRecords ss rs → AreRecords (comment ∷ ss) rs
   a_record : {ss rest : List Says} {rs : List RecordModel} (name : List ℕ) (vs : List ValueModel)
-      → HasValues ss vs rest → AreRecords rest rs → AreRecords (named name ∷ ss) (record { name = name; values = vs } ∷ rs)
+      → HasValues ss vs rest → AreRecords rest rs → AreRecords (named name ∷ ss)
+      (record { name = name; values = vs } ∷ rs)
 
 -- records, before which the version may stand, as it is and not in base64 (RFC 2849, ldif-file and version-spec)
 pub data IsContent : List Says → List RecordModel → Type 0 where

@@ -16,6 +16,7 @@ abbrev pub lines_of_all : List PartialAttributeValue → List ValueModel
 lines_of_all [] = []
 lines_of_all (a ∷ rest) = lines_of a ++ lines_of_all rest
 
--- The record of an entry: its name, and its attributes' values in their order (RFC 4511 4.5.2, RFC 2849 ldif-attrval-record).
+-- The record of an entry: its name, and its attributes' values in their order (RFC 4511 4.5.2, RFC 2849
+-- ldif-attrval-record).
 abbrev pub record_of : SearchResultEntryValue → RecordModel
 record_of e = record { name = e.object_name; values = lines_of_all e.attributes }

@@ -3,7 +3,8 @@ use Rattle.std.proofs.Common.{◌≡◌, ℕ, ◌+◌, ◌-◌, ◌<◌, ◌≤�
 use Rattle.ldif_faults.specs.Classes.{lowest}
 
 -- one number less is left
-pub lowest_step : (f : ℕ → Bool) (i n : ℕ) → i < n → lowest f i (n - i) ≡ cond (f i) (Some i) (lowest f (i + 1) (n - (i + 1)))
+pub lowest_step : (f : ℕ → Bool) (i n : ℕ) → i < n → lowest f i (n - i) ≡ cond (f i) (Some i)
+    (lowest f (i + 1) (n - (i + 1)))
 lowest_step f i n h = let e : n - i ≡ suc (n - (i + 1)) = omega arith in rw e refl
 
 -- none is left

@@ -30,7 +30,8 @@ encoded_at line (Some colon) = less_spaces (drop (colon + 2) line)
 -- a line whose base64 spells no octets
 abbrev pub bad_base64 : List ℕ → List ℕ
 bad_base64 line =
-    bad_base64_by (slice_get (filter (λ octet. not (is_base64 octet)) (encoded_at line (position (λ octet. nat_eq octet 58) line))) 0)
+    bad_base64_by (slice_get (filter (λ octet. not (is_base64 octet))
+    (encoded_at line (position (λ octet. nat_eq octet 58) line))) 0)
 
 -- a line without a colon
 abbrev pub no_colon : List ℕ → List ℕ
@@ -42,7 +43,8 @@ no_description line = codes "'" ++ word_shown (front_of line) ++ codes "' is no 
 
 -- a value outside records
 abbrev pub no_record : List ℕ → List ℕ
-no_record line = codes "expected 'dn:', not '" ++ word_shown (front_of line) ++ codes ":': a record begins with its name"
+no_record line = codes "expected 'dn:', not '" ++ word_shown (front_of line) ++ codes
+    ":': a record begins with its name"
 
 -- the first line of a record; 0, where it has none
 abbrev pub first_line : List ℕ → ℕ
@@ -55,7 +57,8 @@ open_before places number = last_or None (filter (λ place. nat_lt (first_line p
 
 -- a record's name where a record is open, which begins at this line
 abbrev pub second_name : ℕ → List ℕ
-second_name line = codes "a second 'dn:' in the record of line " ++ decimal line ++ codes ": an empty line ends a record"
+second_name line = codes "a second 'dn:' in the record of line " ++ decimal line ++ codes
+    ": an empty line ends a record"
 
 -- What a sentence says of the line of this number of a text, which is wrong for this cause.
 abbrev pub ldif_sentence : List ℕ → ℕ → LdifCause → List ℕ
@@ -67,7 +70,8 @@ ldif_sentence text number cause.ByUrl = codes "a value by URL, behind ':<', is n
 ldif_sentence text number cause.BadBase64 = bad_base64 (line_at text number)
 ldif_sentence text number cause.NoDescription = no_description (line_at text number)
 ldif_sentence text number cause.NameNotUtf8 = codes "the name is not UTF-8"
-ldif_sentence text number cause.SecondName = second_name (first_line (unwrap_or (open_before (record_lines text) number) []))
+ldif_sentence text number cause.SecondName =
+    second_name (first_line (unwrap_or (open_before (record_lines text) number) []))
 ldif_sentence text number cause.NoRecord = no_record (line_at text number)
 ldif_sentence text number cause.LateVersion = codes "'version:' comes once, before all records"
 ldif_sentence text number cause.BadVersion = codes "expected 'version: 1', the one version"

@@ -1,4 +1,5 @@
--- Which rule of its classes a record of LDIF breaks (RFC 4512 2.4): a schema and the record come in, a line's number and a sentence go
+-- Which rule of its classes a record of LDIF breaks (RFC 4512 2.4): a schema and the record come in, a line's number
+-- and a sentence go
 -- out. The types of the name's first part count as given.
 use Rattle.std.specs.Prelude.{◌++◌, ◌||◌, ◌&&◌, ℕ, ◌+◌, ◌-◌, List, [], ◌∷◌, Bool, false, true, not, nat_eq, nat_lt, cond, codes, drop, is_none, length, map, slice_get, zero, suc, Option, None, Some}
 use Rattle.std.specs.List.{filter, last_or, list_any}
@@ -108,7 +109,8 @@ lacks ts required = slice_get (filter (λ t. not (has ts t)) required) 0
 
 -- a type that a class requires, and that has no value
 abbrev pub missing : SchemaModel → ℕ → ℕ → List ℕ
-missing s t c = codes "no value of '" ++ type_title s t ++ codes "', which the class '" ++ class_title s c ++ codes "' requires"
+missing s t c = codes "no value of '" ++ type_title s t ++ codes "', which the class '" ++ class_title s c ++ codes
+    "' requires"
 
 -- the sentence of a required type that is missing, or else what the other classes say
 abbrev pub missing_or : SchemaModel → ℕ → Option ℕ → Option (List ℕ) → Option (List ℕ)
@@ -145,7 +147,8 @@ at_line_or r sentence (Some line) = at_line line sentence
 -- a type that no class allows, at its first value, or at the name that gives it; without one, no rule is named
 abbrev pub foreign_by : SchemaModel → PlacedModel → Option ℕ → Told
 foreign_by s r None = at_name r some_rule
-foreign_by s r (Some t) = at_line_or r (not_allowed s t) (first_line (λ line. is_number t (find s line.description)) r.lines)
+foreign_by s r (Some t) = at_line_or r (not_allowed s t) (first_line (λ line. is_number t (find s line.description))
+    r.lines)
 
 -- types that are missing come before those that aren't allowed
 abbrev pub bad_types : SchemaModel → PlacedModel → TypesModel → List ℕ → Option (List ℕ) → Told

@@ -7,9 +7,11 @@ use Rattle.text_faults.specs.Words.{octet_shown}
 
 -- an octet that is no hexadecimal digit, in this column
 abbrev pub bad_octet : ℕ → ℕ → List ℕ
-bad_octet octet column = codes "'" ++ octet_shown octet ++ codes "' at column " ++ decimal column ++ codes " is no hexadecimal digit"
+bad_octet octet column = codes "'" ++ octet_shown octet ++ codes "' at column " ++ decimal column ++ codes
+    " is no hexadecimal digit"
 
--- What a sentence says of a line that spells no octets: its first octet that is no hexadecimal digit, with its column, counted from this one; or
+-- What a sentence says of a line that spells no octets: its first octet that is no hexadecimal digit, with its column,
+-- counted from this one; or
 -- that they are odd in number.
 abbrev pub hex_sentence : ℕ → List ℕ → List ℕ
 hex_sentence column [] = codes "expected two digits for each octet, found an odd number of them"

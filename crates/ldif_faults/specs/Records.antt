@@ -1,4 +1,5 @@
--- What is wrong with a record of LDIF whose add a directory refuses (RFC 4511 4.7): a schema, a text, the record's number and a result
+-- What is wrong with a record of LDIF whose add a directory refuses (RFC 4511 4.7): a schema, a text, the record's
+-- number and a result
 -- code come in, a line's number and a sentence go out.
 use Rattle.std.specs.Prelude.{◌++◌, ℕ, ◌-◌, List, [], nat_eq, cond, codes, slice_get, Option, None, Some}
 use Rattle.std.specs.declared.result.Result.{Result}
@@ -49,7 +50,8 @@ nothing = record { name = []; values = [] }
 
 -- the record of a number, counted from 1, with its lines
 abbrev pub placed_at : RecordsModel → ℕ → PlacedModel
-placed_at rs number = placed (unwrap_or (slice_get rs.records (number - 1)) nothing) (unwrap_or (slice_get rs.places (number - 1)) [])
+placed_at rs number = placed (unwrap_or (slice_get rs.records (number - 1)) nothing)
+    (unwrap_or (slice_get rs.places (number - 1)) [])
 
 -- What is told of the record of a number, counted from 1.
 abbrev pub record_told : SchemaModel → RecordsModel → ℕ → ℕ → Told

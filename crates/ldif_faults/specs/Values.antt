@@ -36,7 +36,8 @@ no_type line = codes "no attribute type '" ++ word_shown line.description ++ cod
 abbrev pub unknown_type : SchemaModel → PlacedModel → Told
 unknown_type s r = told_or (by_code r 17) no_type (first_line (is_unknown s) r.lines)
 
--- what makes a value one of its type: its key under the type's EQUALITY rule; its octets, where there is no rule or no key
+-- what makes a value one of its type: its key under the type's EQUALITY rule; its octets, where there is no rule or no
+-- key
 -- (RFC 4512 2.2)
 abbrev pub key_by : SchemaModel → Option Rule → List ℕ → List ℕ
 key_by s None octets = octets
@@ -112,7 +113,8 @@ is_named_otherwise s pairs line = differ_by s pairs (identity s line) (single_in
 
 -- such a line
 abbrev pub named_otherwise : LineModel → List ℕ
-named_otherwise line = codes "'" ++ word_shown line.description ++ codes "' is SINGLE-VALUE, and the name gives it another value"
+named_otherwise line = codes "'" ++ word_shown line.description ++ codes
+    "' is SINGLE-VALUE, and the name gives it another value"
 
 -- a second value of such a type: among the values, or beside the name's
 abbrev pub repeated_by : SchemaModel → PlacedModel → Option LineModel → Told
@@ -143,7 +145,8 @@ twice s lines = line_at lines (again_from bytes_eq [] 0 (map (identity s) lines)
 abbrev pub given_twice : LineModel → List ℕ
 given_twice line =
     cond (is_utf8 line.octets)
-    (codes "the value '" ++ word_shown line.octets ++ codes "' of '" ++ word_shown line.description ++ codes "' comes twice")
+    (codes "the value '" ++ word_shown line.octets ++ codes "' of '" ++ word_shown line.description ++ codes
+    "' comes twice")
     (codes "a value of '" ++ word_shown line.description ++ codes "' comes twice")
 
 -- a value that comes twice; else a type does, under two names

@@ -5,7 +5,8 @@ use Rattle.dir_store.specs.indexed_tree.Directory.{Directory, NamedEntry}
 use Rattle.dir_store.specs.directory_api.Answers.{ReplyModel, only}
 use Rattle.dir_store.specs.Updates.{updated, with_entries, reply_of, applied, reply_to}
 
-by_entries : (d : Directory) (r : Result (List NamedEntry) ReplyModel) → (reply_of r ≡ only 0 → ⊥) → with_entries d r ≡ d
+by_entries : (d : Directory) (r : Result (List NamedEntry) ReplyModel) → (reply_of r ≡ only 0 → ⊥) →
+    with_entries d r ≡ d
 by_entries d (Err reply) h = refl
 by_entries d (Ok entries) h = absurd (h refl)
 

@@ -20,7 +20,9 @@ pub record Refusal : Type 0 where
 abbrev pub refusal_or : ℕ → ℕ → Option Refusal → Option Refusal
 refusal_or number code rest = cond (nat_eq code 0) rest (Some (record { number = number; code = code }))
 
--- The first of updates that a directory refuses; they take one number after the other, the first that which follows this one.
+-- The first of updates that a directory refuses; they take one number after the other, the first that which follows
+-- this one.
 abbrev pub first_refused : Directory → ℕ → List OpValue → Option Refusal
 first_refused d number [] = None
-first_refused d number (op ∷ ops) = refusal_or (number + 1) (reply_to d (number + 1) op).code (first_refused (applied d (number + 1) op) (number + 1) ops)
+first_refused d number (op ∷ ops) = refusal_or (number + 1) (reply_to d (number + 1) op).code
+    (first_refused (applied d (number + 1) op) (number + 1) ops)

@@ -12,10 +12,12 @@ use Rattle.local_directory.specs.declared.refused_record.RefusedRecord.{RefusedR
 abbrev pub refusal_and : ℕ → ℕ → List RefusedRecord → List RefusedRecord
 refusal_and number code rest = cond (nat_eq code 0) rest (record { number = number; code = code } ∷ rest)
 
--- All of updates that a directory refuses, in order; they take one number after the other, the first that which follows this one.
+-- All of updates that a directory refuses, in order; they take one number after the other, the first that which follows
+-- this one.
 abbrev pub refusals : Directory → ℕ → List OpValue → List RefusedRecord
 refusals d number [] = []
-refusals d number (op ∷ ops) = refusal_and (number + 1) (reply_to d (number + 1) op).code (refusals (applied d (number + 1) op) (number + 1) ops)
+refusals d number (op ∷ ops) = refusal_and (number + 1) (reply_to d (number + 1) op).code
+    (refusals (applied d (number + 1) op) (number + 1) ops)
 
 -- A text has so many records, and these of them are refused.
 pub record IsChecked (d : Directory) (text : List ℕ) (count : ℕ) (refused : List RefusedRecord) : Type 0 where

@@ -48,7 +48,8 @@ pub record IsFold (d : LocalValue) (made : List MadeUpdate) (e : LocalValue) : T
   pub directory : e.directory ≡ directory_after d.directory d.number (ops_of made)
   pub number : e.number ≡ d.number + length made
   pub replies : map (λ (m : MadeUpdate). m.reply) made ≡ replies_after d.directory d.number (ops_of made)
-  pub placed : (p : ℕ) → slice_get (map (λ (m : MadeUpdate). m.reply) made) p ≡ reply_at d.directory d.number (ops_of made) p
+  pub placed : (p : ℕ) → slice_get (map (λ (m : MadeUpdate). m.reply) made) p ≡ reply_at d.directory d.number
+      (ops_of made) p
 
 -- No kept reply is of an update that is not made yet.
 abbrev pub IsKept : LocalValue → Type 0

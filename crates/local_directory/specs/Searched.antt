@@ -21,7 +21,8 @@ answer_text a = ldif_text (map record_of a.entries)
 abbrev pub filled : Directory → List RecordModel → Directory
 filled d rs = directory_after d 0 (adds rs)
 
--- What is written: the records of the text are all added, and the search of the directory after them is answered with success, by these
+-- What is written: the records of the text are all added, and the search of the directory after them is answered with
+-- success, by these
 -- entries.
 pub record IsSearched (d : Directory) (text : List ℕ) (q : SearchRequestValue) (out : List ℕ) : Type 0 where
   pub records : List RecordModel

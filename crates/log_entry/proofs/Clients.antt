@@ -9,8 +9,11 @@ use Rattle.log_entry.specs.ClientOrder.{client_cmp}
 pub exact_clients : CmpEqualImpliesEq client_cmp
 exact_clients a b h =
     ap (λ (p : ℕ × (ℕ × ℕ)). record { home = p.0; life = p.1.0; number = p.1.1 })
-    (exact_pairs nat_cmp (λ (x y : ℕ × ℕ). ordering_then (nat_cmp x.0 y.0) (nat_cmp x.1 y.1)) exact_unsigned (exact_pairs nat_cmp nat_cmp exact_unsigned exact_unsigned) (a.home, (a.life, a.number)) (b.home, (b.life, b.number)) h)
+    (exact_pairs nat_cmp (λ (x y : ℕ × ℕ). ordering_then (nat_cmp x.0 y.0) (nat_cmp x.1 y.1)) exact_unsigned
+    (exact_pairs nat_cmp nat_cmp exact_unsigned exact_unsigned) (a.home, (a.life, a.number))
+    (b.home, (b.life, b.number)) h)
 
 -- Their order is total.
 pub clients_total : IsTotalOrder client_cmp
-clients_total = then_total (on_total (λ c. c.home) nat_cmp_total) (then_total (on_total (λ c. c.life) nat_cmp_total) (on_total (λ c. c.number) nat_cmp_total))
+clients_total = then_total (on_total (λ c. c.home) nat_cmp_total) (then_total (on_total (λ c. c.life) nat_cmp_total)
+    (on_total (λ c. c.number) nat_cmp_total))

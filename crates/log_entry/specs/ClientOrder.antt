@@ -5,4 +5,5 @@ use Rattle.log_entry.specs.declared.words.Client.{Client}
 
 -- By home, then by life, then by number.
 abbrev pub client_cmp : Client → Client → Ordering
-client_cmp a b = ordering_then (nat_cmp a.home b.home) (ordering_then (nat_cmp a.life b.life) (nat_cmp a.number b.number))
+client_cmp a b = ordering_then (nat_cmp a.home b.home) (ordering_then (nat_cmp a.life b.life)
+    (nat_cmp a.number b.number))

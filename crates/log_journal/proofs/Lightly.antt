@@ -80,7 +80,8 @@ module _ {P : Type 0} (n i : ℕ) (o : Option (LogEntry P)) (r : State P) where
   still : (s : State P) → s.log ≡ r.log → s.status ≡ r.status → s.view_number ≡ r.view_number → IsLightStep o r s
   still s log status view = record { log = inl log; status = go (is_normal r.status) refl }
     where
-      go : (b : Bool) → is_normal r.status ≡ b → (is_normal s.status ≡ false) ⊎ ((is_normal r.status ≡ true) × (s.view_number ≡ r.view_number))
+      go : (b : Bool) → is_normal r.status ≡ b → (is_normal s.status ≡ false) ⊎ ((is_normal r.status ≡ true)
+          × (s.view_number ≡ r.view_number))
       go true e = inr (e, view)
       go false e = inl (ap is_normal status ∙ e)
 
@@ -92,11 +93,17 @@ module _ {P : Type 0} (n i : ℕ) (o : Option (LogEntry P)) (r : State P) where
   left s log status = record { log = inl log; status = inl status }
 
   -- a record is appended
-  grows : (e : LogEntry P) (s : State P) → o ≡ Some e → s.log ≡ r.log ++ e ∷ [] → s.status ≡ r.status → s.view_number ≡ r.view_number → IsLightStep o r s
-  grows e s is log status view = record { log = inr (e, is, log); status = (still (record s { log = r.log }) refl status view).status }
+  grows : (e : LogEntry P) (s : State P) → o ≡ Some e → s.log ≡ r.log ++ e ∷ [] → s.status ≡ r.status →
+      s.view_number ≡ r.view_number → IsLightStep o r s
+  grows e s is log status view = record {
+    log = inr (e, is, log);
+    status =
+        (still (record s { log = r.log }) refl status view).status;
+  }
 
   take_light : (e : LogEntry P) (p x : ℕ) → o ≡ Some e → IsLightStep o r (commit_to x (take_in e p r))
-  take_light e p x is = by_test (λ (s : State P). IsLightStep o r (commit_to x s)) (p == length r.log + 1) (append e r) r
+  take_light e p x is = by_test (λ (s : State P). IsLightStep o r (commit_to x s)) (p == length r.log + 1)
+      (append e r) r
       (λ t. grows e (commit_to x (append e r)) is refl refl refl) (λ t. still (commit_to x r) refl refl refl)
 
   request_light : (e : LogEntry P) → o ≡ Some e → Light (step n i r (Request e))
@@ -104,19 +111,27 @@ module _ {P : Type 0} (n i : ℕ) (o : Option (LogEntry P)) (r : State P) where
     where
       ask : (l : Option Latest) → Light (ask_primary n i r e l)
       ask None = grows e (append e r) is refl refl refl
-      ask (Some last) = by_test Light (nat_lt last.request_number e.request_number) _ _ (λ t. grows e (append e r) is refl refl refl)
-          (λ t. by_test Light (last.request_number == e.request_number && nat_le last.op_number r.commit_number) _ _ (λ s. same) (λ s. same))
+      ask (Some last) = by_test Light (nat_lt last.request_number e.request_number) _ _
+          (λ t. grows e (append e r) is refl refl refl)
+          (λ t. by_test Light (last.request_number == e.request_number && nat_le last.op_number r.commit_number) _ _
+          (λ s. same) (λ s. same))
 
   -- a STARTVIEWCHANGE is noted, and nothing is begun
-  start_light : (s : State P) (from : ℕ) → s.log ≡ r.log → is_normal s.status ≡ false → (list_any (λ j. j == from) s.start_view_changes ≡ true) ⊎ ((primary n s.view_number == i) ≡ false) → Light (note_start n i s from)
-  start_light s from log status (inl heard) = by_test Light (list_any (λ j. j == from) s.start_view_changes) _ _ (λ t. left s log status) (λ t. absurd (not_both _ heard t))
-  start_light s from log status (inr other) = by_test Light (list_any (λ j. j == from) s.start_view_changes) _ _ (λ t. left s log status)
+  start_light : (s : State P) (from : ℕ) → s.log ≡ r.log → is_normal s.status ≡ false →
+      (list_any (λ j. j == from) s.start_view_changes ≡ true) ⊎ ((primary n s.view_number == i) ≡ false) →
+      Light (note_start n i s from)
+  start_light s from log status (inl heard) = by_test Light (list_any (λ j. j == from) s.start_view_changes) _ _
+      (λ t. left s log status) (λ t. absurd (not_both _ heard t))
+  start_light s from log status (inr other) = by_test Light (list_any (λ j. j == from) s.start_view_changes) _ _
+      (λ t. left s log status)
       (λ t. by_test Light (length (s.start_view_changes ++ from ∷ []) == n / 2) _ _
-      (λ k. by_test Light (primary n s.view_number == i) _ _ (λ l. absurd (not_both _ l other)) (λ l. left (record s { start_view_changes = s.start_view_changes ++ from ∷ [] }) log status))
+      (λ k. by_test Light (primary n s.view_number == i) _ _ (λ l. absurd (not_both _ l other))
+      (λ l. left (record s { start_view_changes = s.start_view_changes ++ from ∷ [] }) log status))
       (λ k. left (record s { start_view_changes = s.start_view_changes ++ from ∷ [] }) log status))
 
   -- who isn't to begin a view
-  not_to_begin : (from v : ℕ) → is_behind r v ≡ true → (may_lead n i r v && not (has_heard r from v)) ≡ false → (has_heard r from v ≡ true) ⊎ ((primary n v == i) ≡ false)
+  not_to_begin : (from v : ℕ) → is_behind r v ≡ true → (may_lead n i r v && not (has_heard r from v)) ≡ false →
+      (has_heard r from v ≡ true) ⊎ ((primary n v == i) ≡ false)
   not_to_begin from v behind light = go (has_heard r from v) refl
     where
       go : (b : Bool) → has_heard r from v ≡ b → (has_heard r from v ≡ true) ⊎ ((primary n v == i) ≡ false)
@@ -127,37 +142,63 @@ module _ {P : Type 0} (n i : ℕ) (o : Option (LogEntry P)) (r : State P) where
           lead true k = absurd (true≢false (sym (ap not e) ∙ k))
           lead false k = refl
 
-  message_light : (from : ℕ) (m : PeerMessage P) → o ≡ brings (Message from m) → is_light_message n i r from m ≡ true → Light (on_peer_message n i r from m)
+  message_light : (from : ℕ) (m : PeerMessage P) → o ≡ brings (Message from m) → is_light_message n i r from m ≡
+      true → Light (on_peer_message n i r from m)
   message_light from (Prepare v e p x) is light = by_test Light (is_behind r v) _ _ (λ t. same) (λ t.
-      by_test Light (follows n i r v) _ _ (λ k. by_test Light (nat_le p (length (commit_to x (take_in e p r)).log)) _ _ (λ s. take_light e p x is) (λ s. take_light e p x is)) (λ k. same))
-  message_light from (PrepareOk v p) is light = by_test Light (leads n i r v && nat_le p (length r.log)) _ _ (λ t. still _ refl refl refl) (λ t. same)
-  message_light from (Commit v x) is light = by_test Light (is_behind r v) _ _ (λ t. same) (λ t. by_test Light (follows n i r v) _ _ (λ k. still _ refl refl refl) (λ k. same))
-  message_light from (StartViewChange v) is light = by_test Light (is_recovering r.status) _ _ (λ t. same) (λ t. go (nat_lt r.view_number v) refl)
+      by_test Light (follows n i r v) _ _ (λ k. by_test Light (nat_le p (length (commit_to x (take_in e p r)).log)) _
+      _ (λ s. take_light e p x is) (λ s. take_light e p x is)) (λ k. same))
+  message_light from (PrepareOk v p) is light = by_test Light (leads n i r v && nat_le p (length r.log)) _ _
+      (λ t. still _ refl refl refl) (λ t. same)
+  message_light from (Commit v x) is light = by_test Light (is_behind r v) _ _ (λ t. same)
+      (λ t. by_test Light (follows n i r v) _ _ (λ k. still _ refl refl refl) (λ k. same))
+  message_light from (StartViewChange v) is light = by_test Light (is_recovering r.status) _ _ (λ t. same)
+      (λ t. go (nat_lt r.view_number v) refl)
     where
-      go : (b : Bool) → nat_lt r.view_number v ≡ b → Light (cond (is_changing_in (cond b (enter n v r) r) v) (note_start n i (cond b (enter n v r) r) from) (record { state = cond b (enter n v r) r; sends = []; replies = [] }))
-      go true e = by_test Light (is_changing_in (enter n v r) v) _ _ (λ t. start_light (enter n v r) from refl refl (later (not_to_begin from v (or_left _ _ e) (not_so _ light)))) (λ t. left (enter n v r) refl refl)
+      go : (b : Bool) → nat_lt r.view_number v ≡ b → Light (cond (is_changing_in (cond b (enter n v r) r) v)
+          (note_start n i (cond b (enter n v r) r) from) (record {
+            state = cond b (enter n v r) r;
+            sends =
+                [];
+            replies = [];
+          }))
+      go true e = by_test Light (is_changing_in (enter n v r) v) _ _ (λ t. start_light (enter n v r) from refl refl
+          (later (not_to_begin from v (or_left _ _ e) (not_so _ light)))) (λ t. left (enter n v r) refl refl)
         where
-          later : (has_heard r from v ≡ true) ⊎ ((primary n v == i) ≡ false) → (list_any (λ j. j == from) (enter n v r).start_view_changes ≡ true) ⊎ ((primary n (enter n v r).view_number == i) ≡ false)
-          later (inl heard) = absurd (not_both (r.view_number == v) (both_true (r.view_number == v) _ heard).0 (smaller_is_other _ _ e))
+          later : (has_heard r from v ≡ true) ⊎ ((primary n v == i) ≡ false) →
+              (list_any (λ j. j == from) (enter n v r).start_view_changes ≡ true)
+              ⊎ ((primary n (enter n v r).view_number == i) ≡ false)
+          later (inl heard) = absurd (not_both (r.view_number == v) (both_true (r.view_number == v) _ heard).0
+              (smaller_is_other _ _ e))
           later (inr other) = inr other
-      go false e = by_test Light (is_changing_in r v) _ _ (λ t. start_light r from refl (changing_is r.status (both_true (is_changing r.status) _ t).0) (here t (not_to_begin from v (behind_here r v t) (not_so _ light)))) (λ t. same)
+      go false e = by_test Light (is_changing_in r v) _ _
+          (λ t. start_light r from refl (changing_is r.status (both_true (is_changing r.status) _ t).0)
+          (here t (not_to_begin from v (behind_here r v t) (not_so _ light)))) (λ t. same)
         where
-          here : is_changing_in r v ≡ true → (has_heard r from v ≡ true) ⊎ ((primary n v == i) ≡ false) → (list_any (λ j. j == from) r.start_view_changes ≡ true) ⊎ ((primary n r.view_number == i) ≡ false)
+          here : is_changing_in r v ≡ true → (has_heard r from v ≡ true) ⊎ ((primary n v == i) ≡ false) →
+              (list_any (λ j. j == from) r.start_view_changes ≡ true) ⊎ ((primary n r.view_number == i) ≡ false)
           here t (inl heard) = inl (both_true (r.view_number == v) _ heard).1
-          here t (inr other) = inr (ap (λ k. primary n k == i) (same_number r.view_number v (both_true (is_changing r.status) _ t).1) ∙ other)
+          here t (inr other) = inr (ap (λ k. primary n k == i)
+              (same_number r.view_number v (both_true (is_changing r.status) _ t).1) ∙ other)
             where
               same_number : (a b : ℕ) → (a == b) ≡ true → a ≡ b
               same_number a b k = grind arith
-  message_light from (DoViewChange v c) is light = by_test Light (is_recovering r.status) _ _ (λ t. same) (λ t. go (nat_lt r.view_number v) refl)
+  message_light from (DoViewChange v c) is light = by_test Light (is_recovering r.status) _ _ (λ t. same)
+      (λ t. go (nat_lt r.view_number v) refl)
     where
-      go : (b : Bool) → nat_lt r.view_number v ≡ b → Light (cond (is_changing_in (cond b (enter n v r) r) v && primary n v == i) (try_begin n i (note_change from c (cond b (enter n v r) r))) (record { state = cond b (enter n v r) r; sends = []; replies = [] }))
+      go : (b : Bool) → nat_lt r.view_number v ≡ b →
+          Light (cond (is_changing_in (cond b (enter n v r) r) v && primary n v == i)
+          (try_begin n i (note_change from c (cond b (enter n v r) r)))
+          (record { state = cond b (enter n v r) r; sends = []; replies = [] }))
       go true e = by_test Light (is_changing_in (enter n v r) v && primary n v == i) _ _
-          (λ t. absurd (not_both _ (both_true (is_changing_in (enter n v r) v) _ t).1 (other_false (is_behind r v) _ (not_so _ light) (or_left _ _ e)))) (λ t. left (enter n v r) refl refl)
+          (λ t. absurd (not_both _ (both_true (is_changing_in (enter n v r) v) _ t).1 (other_false (is_behind r v) _
+          (not_so _ light) (or_left _ _ e)))) (λ t. left (enter n v r) refl refl)
       go false e = by_test Light (is_changing_in r v && primary n v == i) _ _
-          (λ t. absurd (not_both _ (both_true (is_changing_in r v) _ t).1 (other_false (is_behind r v) _ (not_so _ light) (behind_here r v (both_true (is_changing_in r v) _ t).0)))) (λ t. same)
+          (λ t. absurd (not_both _ (both_true (is_changing_in r v) _ t).1 (other_false (is_behind r v) _
+          (not_so _ light) (behind_here r v (both_true (is_changing_in r v) _ t).0)))) (λ t. same)
   message_light from (StartView v held) is light = by_test Light (not (is_recovering r.status) && is_behind r v) _ _
       (λ t. absurd (not_both _ (both_true (not (is_recovering r.status)) _ t).1 (not_so _ light))) (λ t. same)
-  message_light from (GetState v x) is light = by_test Light (is_normal r.status && r.view_number == v && nat_le x (length r.log)) _ _ (λ t. same) (λ t. same)
+  message_light from (GetState v x) is light = by_test Light (is_normal r.status && r.view_number == v
+      && nat_le x (length r.log)) _ _ (λ t. same) (λ t. same)
   message_light from (NewState v x tail) is light = absurd (true≢false (sym light))
   message_light from (Recovery x) is light = by_test Light (is_normal r.status) _ _ (λ t. same) (λ t. same)
   message_light from (RecoveryResponse x a) is light = by_test Light (is_recovering r.status && x == r.nonce) _ _
@@ -165,11 +206,13 @@ module _ {P : Type 0} (n i : ℕ) (o : Option (LogEntry P)) (r : State P) where
 
   event_light : (e : Event P) → o ≡ brings e → is_light n i r e ≡ true → Light (step n i r e)
   event_light (Request e) is light = request_light e is
-  event_light (Message from m) is light = by_test Light (nat_lt from n && not (from == i)) _ _ (λ t. message_light from m is light) (λ t. same)
+  event_light (Message from m) is light = by_test Light (nat_lt from n && not (from == i)) _ _
+      (λ t. message_light from m is light) (λ t. same)
   event_light Suspect is light = go r.status
     where
       leave : Light (on_suspect n i r)
-      leave = by_test Light (is_recovering r.status || nat_le greatest_view r.view_number) _ _ (λ t. same) (λ t. left (enter n (r.view_number + 1) r) refl refl)
+      leave = by_test Light (is_recovering r.status || nat_le greatest_view r.view_number) _ _ (λ t. same)
+          (λ t. left (enter n (r.view_number + 1) r) refl refl)
 
       go : (s : Status) → Light (on_suspicion n i r s)
       go Normal = leave
@@ -178,7 +221,8 @@ module _ {P : Type 0} (n i : ℕ) (o : Option (LogEntry P)) (r : State P) where
   event_light Beat is light = go r.status
     where
       go : (s : Status) → Light (on_beat n i r s)
-      go Normal = by_test Light (primary n r.view_number == i) _ _ (λ t. by_test Light (nat_lt r.commit_number (length r.log)) _ _ (λ k. same) (λ k. same)) (λ t. same)
+      go Normal = by_test Light (primary n r.view_number == i) _ _
+          (λ t. by_test Light (nat_lt r.commit_number (length r.log)) _ _ (λ k. same) (λ k. same)) (λ t. same)
       go ViewChange = same
       go Recovering = same
 
@@ -200,21 +244,26 @@ no_tail n i r (Message from (RecoveryResponse x a)) light = refl
 
 -- the records behind those that were there
 one_at_most : (room : ℕ) (o : Option (LogEntry OpValue)) (old new : List (LogEntry OpValue)) → HasOctets room o →
-    (new ≡ old) ⊎ ((x : LogEntry OpValue) × (o ≡ Some x) × (new ≡ old ++ x ∷ [])) → IsOneAtMost room (drop (length old) new)
-one_at_most room o old new octets (inl e) = subst (λ (l : List (LogEntry OpValue)). IsOneAtMost room (drop (length old) l)) (sym e) (none old)
+    (new ≡ old) ⊎ ((x : LogEntry OpValue) × (o ≡ Some x) × (new ≡ old ++ x ∷ [])) →
+    IsOneAtMost room (drop (length old) new)
+one_at_most room o old new octets (inl e) = subst (λ (l : List (LogEntry OpValue)). IsOneAtMost room
+    (drop (length old) l)) (sym e) (none old)
   where
     none : (l : List (LogEntry OpValue)) → IsOneAtMost room (drop (length l) l)
     none [] = tt
     none (x ∷ l) = none l
-one_at_most room o old new octets (inr (x, is, e)) = subst (λ (l : List (LogEntry OpValue)). IsOneAtMost room (drop (length old) l)) (sym e) (one old)
+one_at_most room o old new octets (inr (x, is, e)) = subst (λ (l : List (LogEntry OpValue)). IsOneAtMost room
+    (drop (length old) l)) (sym e) (one old)
   where
     one : (l : List (LogEntry OpValue)) → IsOneAtMost room (drop (length l) (l ++ x ∷ []))
     one [] = octets x is
     one (y ∷ l) = one l
 
 -- A light event is noted by one string at most.
-pub noted_by_one : (n i room : ℕ) (r s : State OpValue) (e : Event OpValue) → is_light n i r e ≡ true → HasOctets room (brings e) → s ≡ (step n i r e).state → IsNotedByOne (before_of r e) s room
-noted_by_one n i room r s e light octets is = subst (λ (x : State OpValue). IsNotedByOne (before_of r e) x room) (sym is) (go h.status)
+pub noted_by_one : (n i room : ℕ) (r s : State OpValue) (e : Event OpValue) → is_light n i r e ≡ true →
+    HasOctets room (brings e) → s ≡ (step n i r e).state → IsNotedByOne (before_of r e) s room
+noted_by_one n i room r s e light octets is = subst (λ (x : State OpValue). IsNotedByOne (before_of r e) x room)
+    (sym is) (go h.status)
   where
     t : State OpValue
     t = (step n i r e).state
@@ -222,9 +271,16 @@ noted_by_one n i room r s e light octets is = subst (λ (x : State OpValue). IsN
     h : IsLightStep (brings e) r (step n i r e).state
     h = event_light n i (brings e) r e refl light
 
-    go : (is_normal (step n i r e).state.status ≡ false) ⊎ ((is_normal r.status ≡ true) × ((step n i r e).state.view_number ≡ r.view_number)) → IsNotedByOne (before_of r e) (step n i r e).state room
+    go : (is_normal (step n i r e).state.status ≡ false) ⊎ ((is_normal r.status ≡ true)
+        × ((step n i r e).state.view_number ≡ r.view_number)) → IsNotedByOne (before_of r e) (step n i r e).state room
     go (inl k) = inl k
-    go (inr (normal, view)) = inr (grew (is_normal r.status) (r.view_number == (step n i r e).state.view_number) (brings_tail e) normal (same_view r.view_number _ (sym view)) (no_tail n i r e light), one_at_most room (brings e) r.log _ octets h.log)
+    go (inr (normal, view)) =
+        inr (
+          grew (is_normal r.status) (r.view_number == (step n i r e).state.view_number) (brings_tail
+              e) normal (same_view r.view_number _ (sym view)) (no_tail n i r e light),
+          one_at_most room (brings e) r.log _
+              octets h.log,
+        )
       where
         same_view : (a b : ℕ) → a ≡ b → (a == b) ≡ true
         same_view a b k = grind arith
@@ -236,15 +292,18 @@ noted_by_one n i room r s e light octets is = subst (λ (x : State OpValue). IsN
         grew false b d x y z = absurd (true≢false (sym x))
 
 -- the one record behind those that were there fits
-pub first_fits : (room : ℕ) (behind late : List (LogEntry OpValue)) (x : LogEntry OpValue) → IsOneAtMost room late → behind ≡ late → 1 ≤ length behind → x ≡ get_or behind 0 x → length (op_bytes x.payload) ≤ room
+pub first_fits : (room : ℕ) (behind late : List (LogEntry OpValue)) (x : LogEntry OpValue) → IsOneAtMost room late →
+    behind ≡ late → 1 ≤ length behind → x ≡ get_or behind 0 x → length (op_bytes x.payload) ≤ room
 first_fits room behind late x h e = go behind (subst (λ (l : List (LogEntry OpValue)). IsOneAtMost room l) (sym e) h)
   where
-    go : (l : List (LogEntry OpValue)) → IsOneAtMost room l → 1 ≤ length l → x ≡ get_or l 0 x → length (op_bytes x.payload) ≤ room
+    go : (l : List (LogEntry OpValue)) → IsOneAtMost room l → 1 ≤ length l → x ≡ get_or l 0 x →
+        length (op_bytes x.payload) ≤ room
     go [] k long is = absurd (omega (arith, long))
     go (y ∷ []) k long is = subst (λ (z : LogEntry OpValue). length (op_bytes z.payload) ≤ room) (sym is) k
     go (y ∷ z ∷ l) k long is = absurd k
 
 -- of a normal replica only records are noted
-pub one_behind : (b : Before) (s : State OpValue) (room : ℕ) → IsNotedByOne b s room → is_normal s.status ≡ true → IsOneAtMost room (drop b.length s.log)
+pub one_behind : (b : Before) (s : State OpValue) (room : ℕ) → IsNotedByOne b s room → is_normal s.status ≡ true →
+    IsOneAtMost room (drop b.length s.log)
 one_behind b s room (inl e) normal = absurd (not_both _ normal e)
 one_behind b s room (inr h) normal = h.1

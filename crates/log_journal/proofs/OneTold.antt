@@ -56,9 +56,15 @@ step_kinds (journaled.Stage e) = (omega arith, omega arith)
 step_kinds (journaled.Adopt v last base k) = (omega arith, omega arith)
 
 -- fields are those of one record
-one_entry : OneUpdate → (kind k other j : ℕ) (e d : LogEntry OpValue) (f : Fields) → IsEntryIn kind k e f → IsEntryIn other j d f → e ≡ d
+one_entry : OneUpdate → (kind k other j : ℕ) (e d : LogEntry OpValue) (f : Fields) → IsEntryIn kind k e f →
+    IsEntryIn other j d f → e ≡ d
 one_entry one kind k other j e d f h g = λ i. record {
-  client = record { home = (sym h.home ∙ g.home) i; life = (sym h.life ∙ g.life) i; number = (sym h.number ∙ g.number) i };
+  client = record {
+    home = (sym h.home ∙ g.home) i;
+    life = (sym h.life ∙ g.life) i;
+    number = (sym h.number ∙ g.number)
+        i;
+  };
   request_number = (sym h.request ∙ g.request) i;
   payload = one e.payload d.payload f.rest h.update g.update i;
 }
@@ -67,15 +73,20 @@ module _ (one : OneUpdate) (f : Fields) where
   -- fields are those of one note of a step
   one_step : (x y : journaled.Note OpValue) → IsStepIn x f → IsStepIn y f → step_kind x ≡ step_kind y → x ≡ y
   one_step (journaled.Enter v) (journaled.Enter w) h g e = λ t. journaled.Enter ((sym h ∙ g) t).first
-  one_step (journaled.Record k a) (journaled.Record j b) h g e = λ t. journaled.Record ((sym h.first_is ∙ g.first_is) t) (one_entry one 3 k 3 j a b f h g t)
+  one_step (journaled.Record k a) (journaled.Record j b) h g e = λ t. journaled.Record ((sym h.first_is ∙ g.first_is)
+      t) (one_entry one 3 k 3 j a b f h g t)
   one_step (journaled.Stage a) (journaled.Stage b) h g e = λ t. journaled.Stage (one_entry one 4 0 4 0 a b f h g t)
-  one_step (journaled.Adopt v last base k) (journaled.Adopt w l b j) h g e = λ t. journaled.Adopt ((sym h ∙ g) t).first ((sym h ∙ g) t).second ((sym h ∙ g) t).third ((sym h ∙ g) t).fourth
+  one_step (journaled.Adopt v last base k) (journaled.Adopt w l b j) h g e = λ t. journaled.Adopt
+      ((sym h ∙ g) t).first ((sym h ∙ g) t).second ((sym h ∙ g) t).third ((sym h ∙ g) t).fourth
   one_step x y h g e = absurd (omega (arith, e))
 
   -- fields are those of one note
   one_kind : (x y : Note) → IsNoteIn x f → IsNoteIn y f → kind_of x ≡ kind_of y → x ≡ y
-  one_kind (Begin cluster index count) (Begin c i n) h g e = ap (λ (p : Fields). Begin p.second p.third p.fourth) (sym h ∙ g)
-  one_kind (Start r v w) (Start s u x) h g e = ap (λ (b : Bool). Start r v b) (sym (flag_back w)) ∙ (ap (λ (p : Fields). Start p.first p.second (unflag p.third)) (sym h ∙ g) ∙ ap (λ (b : Bool). Start s u b) (flag_back x))
+  one_kind (Begin cluster index count) (Begin c i n) h g e = ap (λ (p : Fields). Begin p.second p.third p.fourth)
+      (sym h ∙ g)
+  one_kind (Start r v w) (Start s u x) h g e = ap (λ (b : Bool). Start r v b) (sym (flag_back w))
+      ∙ (ap (λ (p : Fields). Start p.first p.second (unflag p.third)) (sym h ∙ g) ∙ ap (λ (b : Bool). Start s u b)
+      (flag_back x))
   one_kind (Step x) (Step y) h g e = ap (λ (z : journaled.Note OpValue). Step z) (one_step x y h g e)
   one_kind (Commit k) (Commit j) h g e = ap (λ (p : Fields). Commit p.first) (sym h ∙ g)
   one_kind (Step x) y h g e = let b = step_kinds x in absurd (omega (arith, e, b.0, b.1))
@@ -96,4 +107,5 @@ one_spelled one s x y h g =
 pub one_told : OneUpdate → OneIsTold
 one_told one [] t u v h k = sym h ∙ k
 one_told one (s ∷ ss) t u v (x, a, rest) (y, b, more) =
-    one_told one ss (told_by t x) u v rest (subst (λ (z : Note). Tells (told_by t z) ss v) (sym (one_spelled one s x y a b)) more)
+    one_told one ss (told_by t x) u v rest (subst (λ (z : Note). Tells (told_by t z) ss v)
+    (sym (one_spelled one s x y a b)) more)

@@ -8,6 +8,8 @@ use Rattle.ldap_op.specs.Values.{OpValue}
 use Rattle.ldap_op.specs.Written.{IsSpelled, op_bytes}
 use Rattle.log_journal.specs.private.Apart.{AreUpdatesApart}
 
-pub octets_differ : (b : Bool) (one other : OpValue) (x y : List ℕ) → IsSpelled one x → IsSpelled other y → b ≡ bytes_eq x y → OnFalse b (AreUpdatesApart one other)
+pub octets_differ : (b : Bool) (one other : OpValue) (x y : List ℕ) → IsSpelled one x → IsSpelled other y →
+    b ≡ bytes_eq x y → OnFalse b (AreUpdatesApart one other)
 octets_differ b one other x y p q is = OnFalse_from b (AreUpdatesApart one other) (λ off. inl (λ e.
-    let same : false ≡ true = sym off ∙ is ∙ (bytes_eq-Decides x y).1 (p.written ∙ ap op_bytes e ∙ sym q.written) in cc same))
+    let same : false ≡ true = sym off ∙ is ∙ (bytes_eq-Decides x y).1 (p.written ∙ ap op_bytes e ∙ sym q.written)
+    in cc same))

@@ -57,7 +57,8 @@ module _ (f : Fields) (range : AreInRange f) where
 
   -- its string is read so
   pub read_back : fields_at (string_of f) ≡ Some f
-  read_back = ap (λ (b : Bool). cond b (Some (fields_of (front_of (string_of f)))) None) summed ∙ ap (λ (x : List ℕ). Some (fields_of x)) front_is ∙ ap (λ (x : Fields). Some x) fields_are
+  read_back = ap (λ (b : Bool). cond b (Some (fields_of (front_of (string_of f)))) None) summed
+      ∙ ap (λ (x : List ℕ). Some (fields_of x)) front_is ∙ ap (λ (x : Fields). Some x) fields_are
 
 -- The law.
 pub fields_read : FieldsAreRead

@@ -9,7 +9,8 @@ use Rattle.log_journal.specs.private.Told.{TakesString}
 use Rattle.log_journal.specs.Batches.{BatchesAreTold, ToldGoesOn, notes_of_batch}
 
 -- one string more
-pub one_more : (ss : List (List ℕ)) (s : List ℕ) (x : Note) (t u : Told) → Tells t ss u → Spells x s → Tells t (ss ++ s ∷ []) (told_by u x)
+pub one_more : (ss : List (List ℕ)) (s : List ℕ) (x : Note) (t u : Told) → Tells t ss u → Spells x s →
+    Tells t (ss ++ s ∷ []) (told_by u x)
 one_more [] s x t u e h = (x, h, ap (λ (v : Told). told_by v x) e)
 one_more (r ∷ rs) s x t u (y, z, rest) h = (y, z, one_more rs s x (told_by t y) u rest h)
 
@@ -19,7 +20,8 @@ goes_on [] new t u v e h = subst (λ (w : Told). Tells w new v) (sym e) h
 goes_on (s ∷ ss) new t u v (x, y, rest) h = (x, y, goes_on ss new (told_by t x) u v rest h)
 
 -- what steps note is told as it is kept
-told_steps : (xs : List (journaled.Note OpValue)) (ss : List (List ℕ)) (t : Told) → SpellAll (map (λ x. Step x) xs) ss → Tells t ss (record t { kept = journaled.after_notes t.kept xs })
+told_steps : (xs : List (journaled.Note OpValue)) (ss : List (List ℕ)) (t : Told) → SpellAll (map (λ x. Step x) xs)
+    ss → Tells t ss (record t { kept = journaled.after_notes t.kept xs })
 told_steps [] [] t h = refl
 told_steps [] (s ∷ ss) t h = absurd h
 told_steps (x ∷ xs) [] t h = absurd h
@@ -34,7 +36,8 @@ spell_first (suc m) (x ∷ xs) [] h = absurd h
 spell_first (suc m) (x ∷ xs) (s ∷ ss) h = (h.0, spell_first m xs ss h.1)
 
 -- strings of notes in two parts
-pub spell_both : (xs ys : List Note) (ss rs : List (List ℕ)) → SpellAll xs ss → SpellAll ys rs → SpellAll (xs ++ ys) (ss ++ rs)
+pub spell_both : (xs ys : List Note) (ss rs : List (List ℕ)) → SpellAll xs ss → SpellAll ys rs →
+    SpellAll (xs ++ ys) (ss ++ rs)
 spell_both [] ys [] rs h k = k
 spell_both [] ys (s ∷ ss) rs h k = absurd h
 spell_both (x ∷ xs) ys [] rs h k = absurd h
@@ -50,13 +53,19 @@ batches_told law n i r xs alike t k none ss h = record {
   some = λ m. (
     journaled.after_notes t.kept (take m (journaled.notes_of_all n i r xs)),
     told_steps (take m (journaled.notes_of_all n i r xs)) (take m ss) t
-        (subst (λ (l : List Note). SpellAll l (take m ss)) (take-map (λ x. Step x) m (journaled.notes_of_all n i r xs)) (spell_first m (notes_of_batch n i r xs) ss h)),
+        (subst (λ (l : List Note). SpellAll l (take m ss))
+        (take-map (λ x. Step x) m (journaled.notes_of_all n i r xs)) (spell_first m (notes_of_batch n i r xs) ss
+        h)),
     (law n i r xs alike t.kept k none).2 m,
   );
 }
 
 -- a loop's next string
-pub more_tells : {X : Type 0} (f : X → List ℕ) (xs : List X) (i : ℕ) (d : X) (s : List ℕ) (t u v : Told) → i < length xs → s ≡ f (get_or xs i d) → Tells t (map f (take i xs)) u → TakesString s u v → Tells t (map f (take (i + 1) xs)) v
+pub more_tells : {X : Type 0} (f : X → List ℕ) (xs : List X) (i : ℕ) (d : X) (s : List ℕ) (t u v : Told) →
+    i < length xs → s ≡ f (get_or xs i d) → Tells t (map f (take i xs)) u → TakesString s u v →
+    Tells t (map f (take (i + 1) xs)) v
 more_tells f xs i d s t u v lt is h k =
-    subst (λ (l : List (List ℕ)). Tells t l v) (ap (λ (x : List ℕ). map f (take i xs) ++ x ∷ []) is ∙ sym (map_more f xs i d lt))
-    (subst (λ (w : Told). Tells t (map f (take i xs) ++ s ∷ []) w) k.told (one_more (map f (take i xs)) s k.note t u h k.spells))
+    subst (λ (l : List (List ℕ)). Tells t l v) (ap (λ (x : List ℕ). map f (take i xs) ++ x ∷ []) is
+    ∙ sym (map_more f xs i d lt))
+    (subst (λ (w : Told). Tells t (map f (take i xs) ++ s ∷ []) w) k.told (one_more (map f (take i xs)) s k.note t u h
+    k.spells))

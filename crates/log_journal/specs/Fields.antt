@@ -1,4 +1,5 @@
--- The octets of one note of a log's journal: its kind, five numbers, what follows them, and a sum of all that, which tells damage.
+-- The octets of one note of a log's journal: its kind, five numbers, what follows them, and a sum of all that, which
+-- tells damage.
 use Rattle.std.specs.Prelude.{◌≡◌, ◌<◌, ◌^◌, ℕ, ◌-◌, nat_le, List, ◌∷◌, ◌++◌, length, take, drop, ◌&&◌, Bool, cond, Option, Some, None, slice_index}
 use Rattle.std.specs.Str.{bytes_eq}
 use Rattle.std.specs.Int.{w64, to_be_bytes, from_be_bytes}
@@ -56,7 +57,8 @@ front_of string = take (length string - 8) string
 
 -- A string has its fields in full, and its sum is that of the octets in front.
 abbrev pub is_summed : List ℕ → Bool
-is_summed string = nat_le 49 (length string) && bytes_eq (drop (length string - 8) string) (numeral (sum_of (front_of string)))
+is_summed string = nat_le 49 (length string) && bytes_eq (drop (length string - 8) string)
+    (numeral (sum_of (front_of string)))
 
 -- the fields of a string; none where its sum doesn't fit
 abbrev pub fields_at : List ℕ → Option Fields

@@ -1,4 +1,5 @@
--- The notes of a replica's journal, and which strings spell them. What a note does to what is kept is defined in Told; which notes a step makes,
+-- The notes of a replica's journal, and which strings spell them. What a note does to what is kept is defined in Told;
+-- which notes a step makes,
 -- in vr_state.
 use Rattle.std.specs.Prelude.{◌≡◌, ℕ, Bool, true, false, List, [], ◌∷◌, ◌++◌, Some}
 use Rattle.ldap_op.specs.Grammar.{IsOp}
@@ -7,7 +8,8 @@ use Rattle.vr_state.specs.Words.{LogEntry}
 use Rattle.vr_state.specs.Journaled as journaled
 use Rattle.log_journal.specs.Fields.{Fields, fields_at}
 
--- One note: whose the journal is; a start of the replica, in a view, with a log that it may go on from or not; what a step notes; how much is known
+-- One note: whose the journal is; a start of the replica, in a view, with a log that it may go on from or not; what a
+-- step notes; how much is known
 -- to be committed.
 pub data Note : Type 0 where
   Begin : (cluster index count : ℕ) → Note
@@ -25,7 +27,8 @@ abbrev pub flag : Bool → ℕ
 flag true = 1
 flag false = 0
 
--- Fields are a record's, with this kind and this first number: its client, the client's number for the request, and the octets of its update.
+-- Fields are a record's, with this kind and this first number: its client, the client's number for the request, and the
+-- octets of its update.
 pub record IsEntryIn (kind first : ℕ) (e : LogEntry OpValue) (f : Fields) : Type 0 where
   pub kind_is : f.kind ≡ kind
   pub first_is : f.first ≡ first

@@ -1,4 +1,5 @@
--- Why a note isn't taken, put or settled: it is of another version, or its fields are of no note, or there is no room for it.
+-- Why a note isn't taken, put or settled: it is of another version, or its fields are of no note, or there is no room
+-- for it.
 use Rattle.std.specs.Prelude.{◌≡◌, ◌<◌, ◌≤◌, ◌+◌, ◌^◌, ℕ, List, [], ◌∷◌, ◌++◌, length}
 use Rattle.vr_state.specs.Journaled as journaled
 use Rattle.log_journal.specs.Framed.{AreTooLong}

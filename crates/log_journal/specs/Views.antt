@@ -6,7 +6,16 @@ use Rattle.log_journal.specs.declared.told.Told as held
 
 -- the fields
 abbrev pub fields_view : memory.Fields → Fields
-fields_view f = record { kind = f.kind; first = f.first; second = f.second; third = f.third; fourth = f.fourth; fifth = f.fifth; rest = f.rest.now }
+fields_view f = record {
+  kind = f.kind;
+  first = f.first;
+  second = f.second;
+  third = f.third;
+  fourth =
+      f.fourth;
+  fifth = f.fifth;
+  rest = f.rest.now;
+}
 
 -- what is told
 abbrev pub told_view : held.Told → Told
@@ -15,5 +24,13 @@ told_view t = record {
   index = t.index;
   count = t.count;
   restarts = t.restarts;
-  kept = record { view = t.view_number; last = t.last_normal_view; log = t.log; k = t.commit_number; staged = t.staged; whole = t.is_whole };
+  kept = record {
+    view = t.view_number;
+    last = t.last_normal_view;
+    log = t.log;
+    k = t.commit_number;
+    staged =
+        t.staged;
+    whole = t.is_whole;
+  };
 }

@@ -17,7 +17,8 @@ use Rattle.node_gate.specs.Identities.{NodeIdentity, identity_of}
 use Rattle.node_gate.specs.Moved.{IsBeatOf, step_at}
 use Rattle.node_gate.specs.private.Batches.{IsBeatAt}
 
-sent : (n i : ℕ) (r s : State OpValue) (events : List (Event OpValue)) (outputs : List (Result (Outputs OpValue) AllocError)) (k : ℕ) (sends : List (Send OpValue))
+sent : (n i : ℕ) (r s : State OpValue) (events : List (Event OpValue))
+    (outputs : List (Result (Outputs OpValue) AllocError)) (k : ℕ) (sends : List (Send OpValue))
     → MakesSteps n i r events outputs s → slice_get events k ≡ Some Beat → sends_if (slice_get outputs k) ≡ Some sends
     → (t : State OpValue) × (sends ≡ (step n i t Beat).sends)
 sent n i r s [] outputs k sends steps at given = absurd (cc)
@@ -30,24 +31,31 @@ sent n i r s (e ∷ es) (Ok out ∷ xs) (suc k) sends (t, is, rest) at given = s
 sent n i r s (e ∷ es) (Err x ∷ xs) zero sends steps at given = absurd (cc)
 sent n i r s (e ∷ es) (Err x ∷ xs) (suc k) sends steps at given = sent n i r s es xs k sends steps at given
 
-pub beat_sent : (n i : ℕ) (r s : State OpValue) (events : List (Event OpValue)) (outputs : List (Result (Outputs OpValue) AllocError)) (place : Option ℕ) (sends : List (Send OpValue))
-    → MakesSteps n i r events outputs s → IsBeatAt place events → sends_at place outputs ≡ Some sends → (t : State OpValue) × (sends ≡ (step n i t Beat).sends)
+pub beat_sent : (n i : ℕ) (r s : State OpValue) (events : List (Event OpValue))
+    (outputs : List (Result (Outputs OpValue) AllocError)) (place : Option ℕ) (sends : List (Send OpValue))
+    → MakesSteps n i r events outputs s → IsBeatAt place events → sends_at place outputs ≡ Some sends →
+    (t : State OpValue) × (sends ≡ (step n i t Beat).sends)
 beat_sent n i r s events outputs None sends steps at given = absurd (cc)
 beat_sent n i r s events outputs (Some k) sends steps at given = sent n i r s events outputs k sends steps at given
 
 -- so of the node of an identity
-pub beat_of : {D J : Type 0} (own : NodeIdentity) (old new : NodeValue D J) (events : List (Event OpValue)) (outputs : List (Result (Outputs OpValue) AllocError))
-    (place : Option ℕ) (sends : List (Send OpValue)) → identity_of old ≡ own → MakesSteps old.count old.index old.replica events outputs new.replica
+pub beat_of : {D J : Type 0} (own : NodeIdentity) (old new : NodeValue D J) (events : List (Event OpValue))
+    (outputs : List (Result (Outputs OpValue) AllocError))
+    (place : Option ℕ) (sends : List (Send OpValue)) → identity_of old ≡ own → MakesSteps old.count old.index
+    old.replica events outputs new.replica
     → IsBeatAt place events → sends_at place outputs ≡ Some sends → IsBeatOf own sends
 beat_of own old new events outputs place sends own_is steps at given =
-    subst (λ (o : NodeIdentity). IsBeatOf o sends) own_is ∣ beat_sent old.count old.index old.replica new.replica events outputs place sends steps at given ∣₁
+    subst (λ (o : NodeIdentity). IsBeatOf o sends) own_is ∣ beat_sent old.count old.index old.replica new.replica
+    events outputs place sends steps at given ∣₁
 
 -- what a beat of a node sends is what a beat of a node of its identity sends
-beat_is : {D J : Type 0} (own : NodeIdentity) (n : NodeValue D J) (sends : List (Send OpValue)) → identity_of n ≡ own → sends ≡ (step_at n Beat).sends → IsBeatOf own sends
+beat_is : {D J : Type 0} (own : NodeIdentity) (n : NodeValue D J) (sends : List (Send OpValue)) → identity_of n ≡
+    own → sends ≡ (step_at n Beat).sends → IsBeatOf own sends
 beat_is own n sends own_is is = subst (λ (o : NodeIdentity). IsBeatOf o sends) own_is ∣ (n.replica, is) ∣₁
 
 -- so where copies of it are kept
-pub beats_of : {D J V : Type 0} (own : NodeIdentity) (n : NodeValue D J) (items : V → List (Send OpValue)) (Q : Type 0) (beat : Option V) → identity_of n ≡ own
+pub beats_of : {D J V : Type 0} (own : NodeIdentity) (n : NodeValue D J) (items : V → List (Send OpValue))
+    (Q : Type 0) (beat : Option V) → identity_of n ≡ own
     → IfSome beat (λ c. Q × (items c ≡ (step_at n Beat).sends)) → IfSome beat (λ c. IsBeatOf own (items c))
 beats_of own n items Q None own_is copied = tt
 beats_of own n items Q (Some c) own_is copied = beat_is own n (items c) own_is copied.1

@@ -7,7 +7,8 @@ use Rattle.dir_node.specs.dir_store.ldap_schema.Schema.{SchemaModel}
 use Rattle.dir_node.specs.declared.config.NodeConfig.{NodeConfig}
 use Rattle.dir_node.specs.NodeState.{NodeValue}
 
--- the replica that a node is, which of its starts, counted from 1, and what it executes over: a schema, the name of the root, an index choice
+-- the replica that a node is, which of its starts, counted from 1, and what it executes over: a schema, the name of the
+-- root, an index choice
 pub record NodeIdentity : Type 0 where
   pub index : ℕ
   pub count : ℕ

@@ -1,4 +1,5 @@
--- What an event makes of the node that threads share: the node before it and after it, and what is handed over of it to the other replicas.
+-- What an event makes of the node that threads share: the node before it and after it, and what is handed over of it to
+-- the other replicas.
 use Rattle.std.specs.Prelude.{◌≡◌, ◌⊎◌, ℕ, true, false, List, [], ◌∷◌, length, Option, Some, None, Result, Ok, Err}
 use Rattle.std.specs.declared.alloc.AllocError.{AllocError}
 use Rattle.dir_node.specs.dir_store.ldap_op.Values.{OpValue}
@@ -33,19 +34,25 @@ step_at n event = step n.count n.index n.replica event
 -- The committed records that come next are executed: all of them, or, for want of memory, a front of them.
 abbrev pub ExecutesDue : {D J : Type 0} → (before after : NodeValue D J) → Type 0
 ExecutesDue b a =
-    CatchesUp false b.executed.records (due_after (length b.executed.records) a.replica.commit_number a.replica.log) a.executed.records
-    ⊎ CatchesUp true b.executed.records (due_after (length b.executed.records) a.replica.commit_number a.replica.log) a.executed.records
+    CatchesUp false b.executed.records (due_after (length b.executed.records) a.replica.commit_number a.replica.log)
+    a.executed.records
+    ⊎ CatchesUp true b.executed.records (due_after (length b.executed.records) a.replica.commit_number a.replica.log)
+    a.executed.records
 
--- The node made its step at an event, executed what is committed, and a way to the other replicas took what the step sends, in its order, and nothing
+-- The node made its step at an event, executed what is committed, and a way to the other replicas took what the step
+-- sends, in its order, and nothing
 -- else.
-pub record HasStepped {P D J : Type 0} (takes : P → ℕ → PeerMessage OpValue → P → Type 0) (event : Event OpValue) (b a : NodeValue D J) (before after : P) : Type 0 where
+pub record HasStepped {P D J : Type 0} (takes : P → ℕ → PeerMessage OpValue → P → Type 0) (event : Event OpValue)
+    (b a : NodeValue D J) (before after : P) : Type 0 where
   pub replica : a.replica ≡ (step_at b event).state
   pub executed : ExecutesDue b a
   pub taken : TakesAll takes before (step_at b event).sends after
 
--- The node made its step at each of these events, in their order, but at those that were left out for want of memory; these are the outputs. It executed
+-- The node made its step at each of these events, in their order, but at those that were left out for want of memory;
+-- these are the outputs. It executed
 -- what is committed, and a way to the other replicas took what the steps send, in their order, and nothing else.
-pub record HasSteppedAll {P D J : Type 0} (takes : P → ℕ → PeerMessage OpValue → P → Type 0) (events : List (Event OpValue))
+pub record HasSteppedAll {P D J : Type 0} (takes : P → ℕ → PeerMessage OpValue → P → Type 0)
+    (events : List (Event OpValue))
     (outputs : List (Result (Outputs OpValue) AllocError)) (b a : NodeValue D J) (before after : P) : Type 0 where
   pub steps_are : MakesSteps b.count b.index b.replica events outputs a.replica
   pub executed : ExecutesDue b a
@@ -55,18 +62,21 @@ pub record HasSteppedAll {P D J : Type 0} (takes : P → ℕ → PeerMessage OpV
 abbrev pub ComesBySome : {D J : Type 0} → List (Event OpValue) → (before after : NodeValue D J) → Type 0
 ComesBySome events b a = MakesSome b.count b.index b.replica events a.replica
 
--- What refused events leave of the node: for want of memory all as it was; where its device or its journal failed it has stopped, executed nothing, and
+-- What refused events leave of the node: for want of memory all as it was; where its device or its journal failed it
+-- has stopped, executed nothing, and
 -- its replica is as it is after some first of the events; a node that had stopped is as it was.
 abbrev pub IsLeftBy : {D J : Type 0} → List (Event OpValue) → NodeError → (before after : NodeValue D J) → Type 0
 IsLeftBy events error.NoMemory b a = a ≡ b
 IsLeftBy events (error.Store e) b a = (a.is_halted ≡ true) × (a.executed ≡ b.executed) × ComesBySome events b a
-IsLeftBy events (error.Journal e) b a = (a.is_halted ≡ true) × (a.executed ≡ b.executed) × (a.device ≡ b.device) × ComesBySome events b a
+IsLeftBy events (error.Journal e) b a = (a.is_halted ≡ true) × (a.executed ≡ b.executed) × (a.device ≡ b.device)
+    × ComesBySome events b a
 IsLeftBy events error.ForeignJournal b a = ⊥
 IsLeftBy events error.StaleJournal b a = ⊥
 IsLeftBy events error.Halted b a = (b.is_halted ≡ true) × (a ≡ b)
 
 -- The node refused events, and nothing was handed over.
-pub record HasRefused {P D J : Type 0} (events : List (Event OpValue)) (e : NodeError) (b a : NodeValue D J) (before after : P) : Type 0 where
+pub record HasRefused {P D J : Type 0} (events : List (Event OpValue)) (e : NodeError) (b a : NodeValue D J)
+    (before after : P) : Type 0 where
   pub left : IsLeftBy events e b a
   pub nothing : after ≡ before
 
@@ -76,8 +86,10 @@ event_of due.Nothing = None
 event_of due.Beat = Some kind.Beat
 event_of due.Suspect = Some kind.Suspect
 
--- The node made its step at this event, or refused it; where there is none, it is as it was, and nothing was handed over.
-abbrev pub HasActed : {P D J A : Type 0} → (P → ℕ → PeerMessage OpValue → P → Type 0) → Option (Event OpValue) → Result A NodeError
+-- The node made its step at this event, or refused it; where there is none, it is as it was, and nothing was handed
+-- over.
+abbrev pub HasActed : {P D J A : Type 0} → (P → ℕ → PeerMessage OpValue → P → Type 0) → Option (Event OpValue) →
+    Result A NodeError
     → (b a : NodeValue D J) → (before after : P) → Type 0
 HasActed takes None done b a before after = (a ≡ b) × (after ≡ before)
 HasActed takes (Some e) (Ok x) b a before after = HasStepped takes e b a before after

@@ -5,7 +5,9 @@ use Rattle.dir_node.specs.vr_state.declared.message.PeerMessage.{PeerMessage}
 use Rattle.dir_node.specs.vr_state.declared.message.Send.{Send}
 
 -- A way to the other replicas took these messages, one after the other, and nothing else.
-pub data TakesAll {P : Type 0} (takes : P → ℕ → PeerMessage OpValue → P → Type 0) : P → List (Send OpValue) → P → Type 0 where
+pub data TakesAll {P : Type 0} (takes : P → ℕ → PeerMessage OpValue → P → Type 0) : P → List (Send OpValue) → P →
+    Type 0 where
   none : {p : P} → TakesAll takes p [] p
-  next : {p q r : P} {sends : List (Send OpValue)} (send : Send OpValue) → takes p send.to send.message q → TakesAll takes q sends r →
+  next : {p q r : P} {sends : List (Send OpValue)} (send : Send OpValue) → takes p send.to send.message q →
+      TakesAll takes q sends r →
       TakesAll takes p (send ∷ sends) r

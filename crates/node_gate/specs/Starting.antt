@@ -14,7 +14,8 @@ abbrev pub pair_of_start : Bool → Finding → Pair
 pair_of_start true finding = record { view = 0; restarts = 1; journaled = false }
 pair_of_start false finding = started_pair finding
 
--- the replica after its start: normal in view 0, or recovering in the view that was found, with its restarts as its nonce
+-- the replica after its start: normal in view 0, or recovering in the view that was found, with its restarts as its
+-- nonce
 abbrev pub state_of_start : Bool → ℕ → Finding → State OpValue
 state_of_start true count finding = first count
 state_of_start false count finding = recovering count (started_pair finding).view (started_pair finding).restarts
@@ -22,7 +23,8 @@ state_of_start false count finding = recovering count (started_pair finding).vie
 -- what a start sends: nothing, or what asks the others for their state
 abbrev pub outcome_of_start : Bool → ℕ → ℕ → Finding → Outcome OpValue
 outcome_of_start true count index finding = idle (first count)
-outcome_of_start false count index finding = recovers count index (started_pair finding).view (started_pair finding).restarts
+outcome_of_start false count index finding = recovers count index (started_pair finding).view
+    (started_pair finding).restarts
 
 -- A start that no journal decides on: a first one, or one without a journal.
 abbrev pub IsPlain : {J : Type 0} → Bool → Option J → Type 0

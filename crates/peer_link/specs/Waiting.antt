@@ -18,7 +18,8 @@ pub record HaveRoom {T : Type 0} (most_items most_weight : ℕ) (waiting : List 
   pub item : length waiting + 1 ≤ most_items
   pub weight_is : weight_of waiting + weight ≤ most_weight
 
--- Of the items that wait only the oldest are forgotten, and none without need: with it there was no room for one of this weight.
+-- Of the items that wait only the oldest are forgotten, and none without need: with it there was no room for one of
+-- this weight.
 pub record HasForgotten {T : Type 0} (old : QueueValue T) (weight : ℕ) (new : QueueValue T) : Type 0 where
   pub count : ℕ
   pub rest : new.waiting ≡ drop count old.waiting

@@ -10,7 +10,8 @@ least a b = omega arith
 
 pub told_soon : ACommitIsToldSoon
 told_soon c now h = (
-  and_from (beats c.status (is_own c)) (nat_le (min c.beat_at soon) soon) h (le-leb (min c.beat_at soon) soon (least c.beat_at soon)),
+  and_from (beats c.status (is_own c)) (nat_le (min c.beat_at soon) soon) h (le-leb (min c.beat_at soon) soon
+      (least c.beat_at soon)),
   least c.ask_at soon,
 )
   where

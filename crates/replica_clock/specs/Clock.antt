@@ -1,5 +1,7 @@
--- When a replica moves by itself: rules of when a beat or a suspicion is due, as functions of what the replica does, what it heard, and the moment.
--- Moments and times are numbers of one unit. That these rules are never needed for safety is why they may be this project's own.
+-- When a replica moves by itself: rules of when a beat or a suspicion is due, as functions of what the replica does,
+-- what it heard, and the moment.
+-- Moments and times are numbers of one unit. That these rules are never needed for safety is why they may be this
+-- project's own.
 use Rattle.std.specs.Prelude.{◌≡◌, ℕ, ◌+◌, ◌-◌, ◌*◌, ◌/◌, ◌%◌, ◌^◌, ◌<◌, ◌≤◌, max, min, Bool, true, false, cond, not, ◌&&◌, ◌||◌, ◌==◌, nat_le, List, [], ◌∷◌, ◌++◌, Option, Some, None}
 use Rattle.vr_state.specs.State.{is_normal, is_changing, is_recovering}
 use Rattle.vr_state.specs.declared.words.Status.{Status}
@@ -49,7 +51,8 @@ abbrev pub distance : ClockValue → ℕ
 distance c =
     cond (nat_le (next_primary c) c.index) (c.index - next_primary c) (c.count - next_primary c + c.index)
 
--- The spread: each further replica waits an eighth of the time longer than the next primary, so that they don't begin different views at once.
+-- The spread: each further replica waits an eighth of the time longer than the next primary, so that they don't begin
+-- different views at once.
 abbrev pub spread : ClockValue → ℕ
 spread c = c.suspect / 8 * min (distance c) 7
 
@@ -67,7 +70,8 @@ times_longer Recovering given_up = 1
 abbrev pub limit : ClockValue → ℕ
 limit c = patience c * times_longer c.status c.given_up
 
--- A backup suspects its primary, a replica that changes its view gives that view up, and one that recovers reminds the others of the view that it has
+-- A backup suspects its primary, a replica that changes its view gives that view up, and one that recovers reminds the
+-- others of the view that it has
 -- stored, in case theirs is below it. A primary suspects nobody.
 abbrev pub suspects : Status → Bool → Bool
 suspects Normal own = not own
@@ -134,7 +138,8 @@ done due.Suspect c now =
       beat_at = now + c.beat;
     }
 
--- The clock was asked: it says what is due, and when to ask again, at most a beat later; before that nothing is due, unless something is heard.
+-- The clock was asked: it says what is due, and when to ask again, at most a beat later; before that nothing is due,
+-- unless something is heard.
 pub record IsAsked (old : ClockValue) (now : ℕ) (what : Due) (wait : ℕ) (new : ClockValue) : Type 0 where
   pub is_due : what ≡ due_at (rested old now) now
   pub known : new ≡ record (done what (rested old now) now) { ask_at = now + wait }
@@ -148,7 +153,8 @@ is_same Normal other = is_normal other
 is_same ViewChange other = is_changing other
 is_same Recovering other = is_recovering other
 
--- How much longer a view is waited for in a new status: one that others left while long messages were on their way counts as given up.
+-- How much longer a view is waited for in a new status: one that others left while long messages were on their way
+-- counts as given up.
 abbrev pub still_given_up : Status → ℕ → Bool → ℕ
 still_given_up Normal given_up long = 0
 still_given_up ViewChange given_up long = cond long (twice_as_long given_up) given_up
@@ -179,7 +185,8 @@ awaits Normal c from = from == primary c
 awaits ViewChange c from = from == primary c || is_own c
 awaits Recovering c from = true
 
--- A part of a long message came: who is awaited is not silent. A replica that recovers awaits all others, and needs not ask again yet.
+-- A part of a long message came: who is awaited is not silent. A replica that recovers awaits all others, and needs not
+-- ask again yet.
 abbrev pub part_heard : Status → ClockValue → ℕ → ClockValue
 part_heard Normal c now = record c { silent_since = now }
 part_heard ViewChange c now = record c { silent_since = now; is_long = true }
@@ -191,7 +198,8 @@ part_taken Normal c to now = c
 part_taken ViewChange c to now = cond (to == primary c) (record c { silent_since = now; is_long = true }) c
 part_taken Recovering c to now = c
 
--- A message came. A sign of life is one by which the primary of the own view leads it; that this primary recovers says that it has lost its state, and
+-- A message came. A sign of life is one by which the primary of the own view leads it; that this primary recovers says
+-- that it has lost its state, and
 -- then the clock wants to be asked when the spread has passed. Nothing else is heard.
 abbrev pub heard : ClockValue → ℕ → Sign → ℕ → ClockValue
 heard c from (Leads view) now =
@@ -241,17 +249,21 @@ abbrev pub parts_heard : ClockValue → ℕ → List ℕ → ClockValue
 parts_heard c from [] = c
 parts_heard c from (now ∷ later) = parts_heard (heard c from Part now) from later
 
--- However many parts of a message have come, and when: for one patience after the last nobody is suspected who is awaited and hasn't lost its state.
+-- However many parts of a message have come, and when: for one patience after the last nobody is suspected who is
+-- awaited and hasn't lost its state.
 abbrev pub AMessageThatComesIsAwaited : Type 0
-AMessageThatComesIsAwaited = (c : ClockValue) (from : ℕ) (before : List ℕ) (last now : ℕ) → awaits c.status c from ≡ true → c.lost_since ≡ None
+AMessageThatComesIsAwaited = (c : ClockValue) (from : ℕ) (before : List ℕ) (last now : ℕ) → awaits c.status c from ≡
+    true → c.lost_since ≡ None
     → last ≤ now → now < last + limit c → is_over (parts_heard c from (before ++ last ∷ [])) now ≡ false
 
--- And for one patience after the last part that the next primary has taken of it, its sender doesn't suspect that primary.
+-- And for one patience after the last part that the next primary has taken of it, its sender doesn't suspect that
+-- primary.
 abbrev pub AMessageThatIsTakenIsAwaited : Type 0
 AMessageThatIsTakenIsAwaited = (c : ClockValue) (last now : ℕ) → c.status ≡ ViewChange → c.lost_since ≡ None
     → last ≤ now → now < last + limit c → is_over (heard c (primary c) Taken last) now ≡ false
 
 -- A view that is given up all the same is followed by one that is waited for twice as long, up to a million patiences.
 abbrev pub ALongViewIsAwaitedLonger : Type 0
-ALongViewIsAwaitedLonger = (c : ClockValue) (now : ℕ) → c.status ≡ ViewChange → c.is_long ≡ true → 2 * (c.given_up + 1) ≤ 2 ^ 20
+ALongViewIsAwaitedLonger = (c : ClockValue) (now : ℕ) → c.status ≡ ViewChange → c.is_long ≡ true →
+    2 * (c.given_up + 1) ≤ 2 ^ 20
     → limit (done due.Suspect c now) ≡ 2 * limit c

@@ -1,7 +1,8 @@
 -- Whether the other end of a stream is still there. Moments and times are numbers of one unit.
 use Rattle.std.specs.Prelude.{◌≡◌, ℕ, ◌+◌, ◌-◌, ◌≤◌, Bool, true, false, cond, nat_le, List, [], ◌∷◌, Option, Some, None}
 
--- how often the other end is asked, how long its answer may take, whether it has ever answered, when it was asked last, and since when an answer is awaited
+-- how often the other end is asked, how long its answer may take, whether it has ever answered, when it was asked last,
+-- and since when an answer is awaited
 pub record KeepAliveValue : Type 0 where
   pub beat : ℕ
   pub silence : ℕ
@@ -28,7 +29,11 @@ waits_from (Some since) now = since
 
 -- It is asked, if it is one that answers.
 abbrev pub asked : KeepAliveValue → ℕ → KeepAliveValue
-asked k now = record k { asked_at = now; waits_since = cond k.answers (Some (waits_from k.waits_since now)) k.waits_since }
+asked k now = record k {
+  asked_at = now;
+  waits_since = cond k.answers (Some (waits_from k.waits_since now))
+      k.waits_since;
+}
 
 -- an answer has been awaited for so long
 abbrev pub is_past : ℕ → Option ℕ → ℕ → Bool
@@ -44,7 +49,9 @@ abbrev pub asked_at_all : List ℕ → KeepAliveValue → KeepAliveValue
 asked_at_all [] k = k
 asked_at_all (now ∷ moments) k = asked_at_all moments (asked k now)
 
--- However often an end that has answered before is asked in vain: it counts as gone once the silence has lasted since the first question.
+-- However often an end that has answered before is asked in vain: it counts as gone once the silence has lasted since
+-- the first question.
 abbrev pub ASilentEndIsGone : Type 0
-ASilentEndIsGone = (k : KeepAliveValue) (first : ℕ) (moments : List ℕ) (now : ℕ) → k.answers ≡ true → k.waits_since ≡ None
+ASilentEndIsGone = (k : KeepAliveValue) (first : ℕ) (moments : List ℕ) (now : ℕ) → k.answers ≡ true → k.waits_since ≡
+    None
     → first + k.silence ≤ now → is_gone (asked_at_all (first ∷ moments) k) now ≡ true

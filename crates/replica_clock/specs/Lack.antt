@@ -25,7 +25,8 @@ abbrev pub missing_at : List ℕ → LackValue → LackValue
 missing_at [] l = l
 missing_at (now ∷ moments) l = missing_at moments (looked l true now)
 
--- Whatever was seen before: where it wasn't missing once, and is missing from a later moment on, it is too long from the limit after that moment on ..
+-- Whatever was seen before: where it wasn't missing once, and is missing from a later moment on, it is too long from
+-- the limit after that moment on ..
 abbrev pub ALastingLackIsFound : Type 0
 ALastingLackIsFound = (l : LackValue) (before first : ℕ) (moments : List ℕ) (now : ℕ) → first + l.limit ≤ now
     → is_too_long (missing_at (first ∷ moments) (looked l false before)).since l.limit now ≡ true

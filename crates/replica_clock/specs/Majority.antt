@@ -35,7 +35,8 @@ asked m now = record m {
   rested_at = cond (nat_le (m.suspect / 2) (now - m.asked_at)) now m.rested_at;
 }
 
--- It is in touch with a majority: more than half of all replicas are, or silence has been counted for less than a suspect period.
+-- It is in touch with a majority: more than half of all replicas are, or silence has been counted for less than a
+-- suspect period.
 abbrev pub holds : MajorityValue → ℕ → Bool
 holds m now = nat_le (now - m.rested_at) m.suspect || not (nat_le (in_touch m now) (length m.heard / 2))
 

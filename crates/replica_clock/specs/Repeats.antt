@@ -1,7 +1,9 @@
--- Which of the DOVIEWCHANGEs that a replica repeats at its beats are heard: each costs the node that hears it a look at its whole log.
+-- Which of the DOVIEWCHANGEs that a replica repeats at its beats are heard: each costs the node that hears it a look at
+-- its whole log.
 use Rattle.std.specs.Prelude.{◌≡◌, ℕ, ◌+◌, ◌<◌, ◌≤◌, Bool, true, false, cond, not, ◌&&◌, ◌==◌, nat_le, List, [], ◌∷◌, Option, Some, None}
 
--- the view of the replica's last one that was handed on, where there is one, and how many of that view were held back since
+-- the view of the replica's last one that was handed on, where there is one, and how many of that view were held back
+-- since
 pub record RepeatsValue : Type 0 where
   pub view : Option ℕ
   pub held_back : ℕ
@@ -35,12 +37,15 @@ times_among view (v ∷ vs) = cond (view == v) (times_among view vs + 1) (times_
 
 -- Whatever came before, and of whichever views: where sixteen of one view were among it, the next of that view passes.
 abbrev pub ARepeatedMessagePasses : Type 0
-ARepeatedMessagePasses = (r : RepeatsValue) (view : ℕ) (views : List ℕ) → 16 ≤ times_among view views → passes (all_asked views r) view ≡ true
+ARepeatedMessagePasses = (r : RepeatsValue) (view : ℕ) (views : List ℕ) → 16 ≤ times_among view views →
+    passes (all_asked views r) view ≡ true
 
 -- One of another view than the last that was handed on always passes.
 abbrev pub ANewViewPasses : Type 0
-ANewViewPasses = (r : RepeatsValue) (view : ℕ) (views : List ℕ) → is_known r.view view ≡ false → passes (all_asked views r) view ≡ true
+ANewViewPasses = (r : RepeatsValue) (view : ℕ) (views : List ℕ) → is_known r.view view ≡ false →
+    passes (all_asked views r) view ≡ true
 
 -- But once one is handed on, sixteen of its view don't pass, whatever comes between them.
 abbrev pub RepeatedMessagesAreHeldBack : Type 0
-RepeatedMessagesAreHeldBack = (view : ℕ) (views : List ℕ) → times_among view views < 16 → passes (all_asked views (handed_on view)) view ≡ false
+RepeatedMessagesAreHeldBack = (view : ℕ) (views : List ℕ) → times_among view views < 16 →
+    passes (all_asked views (handed_on view)) view ≡ false

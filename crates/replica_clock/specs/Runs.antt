@@ -7,7 +7,8 @@ use Rattle.replica_clock.specs.declared.sign.Sign.TheVariants.{Leads, Lost, Part
 use Rattle.replica_clock.specs.declared.clock.Due.TheVariants as due
 use Rattle.replica_clock.specs.Clock.{ClockValue, awaits, done, due_at, heard, is_over, is_own, is_same, noted, primary, rested}
 
--- It is asked at a moment, and then wants to be asked after a time; it hears a sign of a replica; or its replica is in a view with a status.
+-- It is asked at a moment, and then wants to be asked after a time; it hears a sign of a replica; or its replica is in
+-- a view with a status.
 pub data Event : Type 0 where
   Asks : (now wait : ℕ) → Event
   Hears : (from : ℕ) (sign : Sign) (now : ℕ) → Event
@@ -38,7 +39,8 @@ is_life c from Part = from == primary c
 is_life c from Taken = false
 is_life c from Other = false
 
--- It says no sign of life of the primary: the clock is asked in time, and nothing is due, something else is heard, or its replica is as it was.
+-- It says no sign of life of the primary: the clock is asked in time, and nothing is due, something else is heard, or
+-- its replica is as it was.
 abbrev pub IsSilent : ClockValue → Event → Type 0
 IsSilent c (Asks now wait) = (c.silent_since ≤ now) × (now ≤ c.ask_at) × (due_at (rested c now) now ≡ due.Nothing)
 IsSilent c (Hears from sign now) = is_life c from sign ≡ false
@@ -49,10 +51,12 @@ abbrev pub AreSilent : ClockValue → List Event → Type 0
 AreSilent c [] = Unit
 AreSilent c (e ∷ es) = IsSilent c e × AreSilent (after c e) es
 
--- A backup that hears nothing of its primary suspects it: when it is asked in time, and two suspect periods have passed since the last sign of life, it does,
+-- A backup that hears nothing of its primary suspects it: when it is asked in time, and two suspect periods have passed
+-- since the last sign of life, it does,
 -- whatever else was heard meanwhile, and however often it was asked.
 abbrev pub ASilentPrimaryIsSuspected : Type 0
-ASilentPrimaryIsSuspected = (c : ClockValue) (events : List Event) (now : ℕ) → c.status ≡ Normal → is_own c ≡ false → AreSilent c events
+ASilentPrimaryIsSuspected = (c : ClockValue) (events : List Event) (now : ℕ) → c.status ≡ Normal → is_own c ≡ false →
+    AreSilent c events
     → c.silent_since + 2 * c.suspect ≤ now → now ≤ (after_all events c).ask_at
     → due_at (rested (after_all events c) now) now ≡ due.Suspect
 
@@ -74,7 +78,8 @@ abbrev pub AreWellSince : ℕ → ClockValue → List Event → Type 0
 AreWellSince last c [] = Unit
 AreWellSince last c (e ∷ es) = (last ≤ moment_of e) × (is_loss c e ≡ false) × AreWellSince last (after c e) es
 
--- And while all is well it suspects nobody: within one suspect period after a sign of life of the view's primary, whatever is heard meanwhile, and
+-- And while all is well it suspects nobody: within one suspect period after a sign of life of the view's primary,
+-- whatever is heard meanwhile, and
 -- however late it is asked.
 abbrev pub AHeardPrimaryIsTrusted : Type 0
 AHeardPrimaryIsTrusted = (c : ClockValue) (last : ℕ) (events : List Event) (now : ℕ)

@@ -4,7 +4,8 @@ use Rattle.vr_state.specs.declared.message.PeerMessage.TheVariants as kind
 pub use Rattle.replica_clock.specs.declared.sign.Sign.{Sign}
 use Rattle.replica_clock.specs.declared.sign.Sign.TheVariants.{Leads, Lost, Other}
 
--- The primary of a view alone sends PREPARE, COMMIT and STARTVIEW of it, and a NEWSTATE of it shows that it has begun (VRR 4.1, 4.2, 5.2). A replica that
+-- The primary of a view alone sends PREPARE, COMMIT and STARTVIEW of it, and a NEWSTATE of it shows that it has begun
+-- (VRR 4.1, 4.2, 5.2). A replica that
 -- sends RECOVERY has lost its state (VRR 4.3).
 abbrev pub sign_of : {P : Type 0} → PeerMessage P → Sign
 sign_of (kind.Prepare v e p k) = Leads v

@@ -4,7 +4,8 @@ pub use Rattle.replica_clock.specs.declared.steps.Progress.{Progress}
 use Rattle.replica_clock.specs.declared.steps.Progress.TheVariants.{Well, Stuck, Hung}
 use Rattle.replica_clock.specs.Pace.{PaceValue, is_turn, turned}
 
--- what is known of the step that a node is at: how many came before it, and since when it was seen; none where it is at none
+-- what is known of the step that a node is at: how many came before it, and since when it was seen; none where it is at
+-- none
 pub record StepsValue : Type 0 where
   pub suspect : ℕ
   pub made : ℕ
@@ -51,7 +52,8 @@ abbrev pub AShortStepIsWell : Type 0
 AShortStepIsWell = (s : StepsValue) (made first : ℕ) (moments : List ℕ) (now : ℕ) → s.since ≡ None
     → now + 1 ≤ first + s.suspect → 1 ≤ s.suspect → progress (busied_at made (first ∷ moments) s) now ≡ Well
 
--- At a step that lasts, a primary sends its last beat once more, beat by beat; where it is hung it is silent, so that the others go on without it.
+-- At a step that lasts, a primary sends its last beat once more, beat by beat; where it is hung it is silent, so that
+-- the others go on without it.
 -- Any other replica is silent: only a primary's beats are awaited.
 abbrev pub beats_at : Bool → Progress → PaceValue → ℕ → Bool
 beats_at leads Well p now = leads && is_turn p now
@@ -66,10 +68,12 @@ beaten_at leads Hung p now = p
 
 -- Whatever is seen of one step that never ends: a replica is silent three suspect periods after it was seen first.
 abbrev pub AHungPrimaryIsSilent : Type 0
-AHungPrimaryIsSilent = (leads : Bool) (s : StepsValue) (made first : ℕ) (moments : List ℕ) (p : PaceValue) (now : ℕ) → s.since ≡ None
+AHungPrimaryIsSilent = (leads : Bool) (s : StepsValue) (made first : ℕ) (moments : List ℕ) (p : PaceValue) (now : ℕ) →
+    s.since ≡ None
     → first + 3 * s.suspect ≤ now → beats_at leads (progress (busied_at made (first ∷ moments) s) now) p now ≡ false
 
 -- And before they have passed a primary says once a beat that it is there.
 abbrev pub ABusyPrimaryIsHeard : Type 0
 ABusyPrimaryIsHeard = (s : StepsValue) (made first : ℕ) (moments : List ℕ) (p : PaceValue) (now : ℕ) → s.since ≡ None
-    → now + 1 ≤ first + 3 * s.suspect → 1 ≤ s.suspect → beats_at true (progress (busied_at made (first ∷ moments) s) now) p now ≡ is_turn p now
+    → now + 1 ≤ first + 3 * s.suspect → 1 ≤ s.suspect → beats_at true (progress (busied_at made (first ∷ moments) s)
+    now) p now ≡ is_turn p now

@@ -35,7 +35,8 @@ nowhere = record { last_normal = 0; length = 0 }
 
 -- it goes further than none
 none_further : (r : Reach) → is_further nowhere r ≡ false
-none_further r = neither (nat_lt r.last_normal 0) _ (le-ltb r.last_normal 0 (omega arith)) (second_false (0 == r.last_normal) _ (le-ltb r.length 0 (omega arith)))
+none_further r = neither (nat_lt r.last_normal 0) _ (le-ltb r.last_normal 0 (omega arith))
+    (second_false (0 == r.last_normal) _ (le-ltb r.length 0 (omega arith)))
 
 max_is : (a b : ℕ) → (max a b ≡ a) ⊎ (max a b ≡ b)
 max_is a b = ⊎_elim (λ t. inr (omega (arith, t.1))) (λ t. inl (omega (arith, t.1))) (leb_tells a b)
@@ -46,16 +47,20 @@ record IsBefore (c : Claim) (p : Past) : Type 0 where
   view : p.view ≤ c.view
   reach : c.remembers ≡ true → is_further p.reach (reach_of c) ≡ false
 
-reached_before : (old new r : Reach) → is_further old r ≡ false → is_further new r ≡ false → is_further (reached old new) r ≡ false
-reached_before old new r f g = by_test (λ (x : Reach). is_further x r ≡ false) (is_further new old) new old (λ t. g) (λ t. f)
+reached_before : (old new r : Reach) → is_further old r ≡ false → is_further new r ≡ false →
+    is_further (reached old new) r ≡ false
+reached_before old new r f g = by_test (λ (x : Reach). is_further x r ≡ false) (is_further new old) new old (λ t. g)
+    (λ t. f)
 
 before : (c : Claim) (xs : List Saying) → GoesForward c xs → IsBefore c (past_of xs)
 before c [] h = record { start = h; view = omega arith; reach = λ k. none_further (reach_of c) }
 before c (Greets d ∷ xs) (one, rest) = record {
   start = one.0;
   view = omega (arith, (before c xs rest).view, one.1);
-  reach = λ k. by_test (λ (x : Reach). is_further x (reach_of c) ≡ false) d.remembers (reached (past_of xs).reach (reach_of d)) (past_of xs).reach
-      (λ t. reached_before (past_of xs).reach (reach_of d) (reach_of c) ((before c xs rest).reach k) (one.2 k t)) (λ t. (before c xs rest).reach k);
+  reach = λ k. by_test (λ (x : Reach). is_further x (reach_of c) ≡ false) d.remembers
+      (reached (past_of xs).reach (reach_of d)) (past_of xs).reach
+      (λ t. reached_before (past_of xs).reach (reach_of d) (reach_of c) ((before c xs rest).reach k) (one.2 k t))
+      (λ t. (before c xs rest).reach k);
 }
 before c (Says v l ∷ xs) (one, rest) = record {
   start = (before c xs rest).start;
@@ -65,8 +70,10 @@ before c (Says v l ∷ xs) (one, rest) = record {
 
 taken : (p : Past) (c : Claim) → IsBefore c p → judged p c ≡ None
 taken p c h = by_test (λ (o : Option Forgotten). o ≡ None) (is_same_start p c) _ _ (λ t. refl)
-    (λ t. by_test (λ (o : Option Forgotten). o ≡ None) (nat_le c.start p.start) _ _ (λ k. absurd (omega (arith, leb-true _ _ k, h.start)))
-    (λ k. by_test (λ (o : Option Forgotten). o ≡ None) (nat_lt c.view p.view) _ _ (λ l. absurd (omega (arith, ltb-true _ _ l, h.view)))
+    (λ t. by_test (λ (o : Option Forgotten). o ≡ None) (nat_le c.start p.start) _ _
+    (λ k. absurd (omega (arith, leb-true _ _ k, h.start)))
+    (λ k. by_test (λ (o : Option Forgotten). o ≡ None) (nat_lt c.view p.view) _ _
+    (λ l. absurd (omega (arith, ltb-true _ _ l, h.view)))
     (λ l. by_test (λ (o : Option Forgotten). o ≡ None) (c.remembers && is_further p.reach (reach_of c)) _ _
     (λ m. absurd (not_both _ (both_true c.remembers _ m).1 (h.reach (both_true c.remembers _ m).0))) (λ m. refl))))
 
@@ -82,11 +89,15 @@ start_said (Says v l ∷ xs) = ⊎_elim (λ e. inl e) (λ s. inr (inr s)) (start
 view_said : (xs : List Saying) → ((past_of xs).view ≡ 0) ⊎ SomeSaid (forgotten.View (past_of xs).view) xs
 view_said [] = inl refl
 view_said (Greets d ∷ xs) = ⊎_elim
-    (λ e. subst (λ (v : ℕ). (v ≡ 0) ⊎ SomeSaid (forgotten.View v) (Greets d ∷ xs)) (sym e) (⊎_elim (λ z. inl z) (λ s. inr (inr s)) (view_said xs)))
-    (λ e. subst (λ (v : ℕ). (v ≡ 0) ⊎ SomeSaid (forgotten.View v) (Greets d ∷ xs)) (sym e) (inr (inl refl))) (max_is (past_of xs).view d.view)
+    (λ e. subst (λ (v : ℕ). (v ≡ 0) ⊎ SomeSaid (forgotten.View v) (Greets d ∷ xs)) (sym e)
+    (⊎_elim (λ z. inl z) (λ s. inr (inr s)) (view_said xs)))
+    (λ e. subst (λ (v : ℕ). (v ≡ 0) ⊎ SomeSaid (forgotten.View v) (Greets d ∷ xs)) (sym e) (inr (inl refl)))
+    (max_is (past_of xs).view d.view)
 view_said (Says w l ∷ xs) = ⊎_elim
-    (λ e. subst (λ (v : ℕ). (v ≡ 0) ⊎ SomeSaid (forgotten.View v) (Says w l ∷ xs)) (sym e) (⊎_elim (λ z. inl z) (λ s. inr (inr s)) (view_said xs)))
-    (λ e. subst (λ (v : ℕ). (v ≡ 0) ⊎ SomeSaid (forgotten.View v) (Says w l ∷ xs)) (sym e) (inr (inl refl))) (max_is (past_of xs).view w)
+    (λ e. subst (λ (v : ℕ). (v ≡ 0) ⊎ SomeSaid (forgotten.View v) (Says w l ∷ xs)) (sym e)
+    (⊎_elim (λ z. inl z) (λ s. inr (inr s)) (view_said xs)))
+    (λ e. subst (λ (v : ℕ). (v ≡ 0) ⊎ SomeSaid (forgotten.View v) (Says w l ∷ xs)) (sym e) (inr (inl refl)))
+    (max_is (past_of xs).view w)
 
 -- no log was named, or this one was
 abbrev IsNamed : List Saying → Reach → Type 0
@@ -97,10 +108,13 @@ one_more x xs r h = ⊎_elim (λ z. inl z) (λ s. inr (inr s)) h
 
 log_said : (xs : List Saying) → IsNamed xs (past_of xs).reach
 log_said [] = inl refl
-log_said (Greets d ∷ xs) = by_test (IsNamed (Greets d ∷ xs)) d.remembers (reached (past_of xs).reach (reach_of d)) (past_of xs).reach
-    (λ t. by_test (IsNamed (Greets d ∷ xs)) (is_further (reach_of d) (past_of xs).reach) (reach_of d) (past_of xs).reach (λ k. inr (inl (t, refl))) (λ k. one_more (Greets d) xs _ (log_said xs)))
+log_said (Greets d ∷ xs) = by_test (IsNamed (Greets d ∷ xs)) d.remembers (reached (past_of xs).reach (reach_of d))
+    (past_of xs).reach
+    (λ t. by_test (IsNamed (Greets d ∷ xs)) (is_further (reach_of d) (past_of xs).reach) (reach_of d)
+    (past_of xs).reach (λ k. inr (inl (t, refl))) (λ k. one_more (Greets d) xs _ (log_said xs)))
     (λ t. one_more (Greets d) xs _ (log_said xs))
-log_said (Says w l ∷ xs) = by_test (IsNamed (Says w l ∷ xs)) (is_further l (past_of xs).reach) l (past_of xs).reach (λ k. inr (inl refl)) (λ k. one_more (Says w l) xs _ (log_said xs))
+log_said (Says w l ∷ xs) = by_test (IsNamed (Says w l ∷ xs)) (is_further l (past_of xs).reach) l (past_of xs).reach
+    (λ k. inr (inl refl)) (λ k. one_more (Says w l) xs _ (log_said xs))
 
 module _ (c : Claim) (xs : List Saying) (f : Forgotten) (counted : 0 < c.start) where
   abbrev Causes : Option Forgotten → Type 0
@@ -118,8 +132,13 @@ module _ (c : Claim) (xs : List Saying) (f : Forgotten) (counted : 0 < c.start) 
   view : c.view < (past_of xs).view → Because (forgotten.View (past_of xs).view)
   view k = (⊎_elim (λ z. absurd (omega (arith, k, z))) (λ s. s) (view_said xs), k)
 
-  log : c.remembers ≡ true → is_further (past_of xs).reach (reach_of c) ≡ true → Because (forgotten.Log (past_of xs).reach)
-  log r k = (⊎_elim (λ z. absurd (not_both _ (subst (λ (x : Reach). is_further x (reach_of c) ≡ true) z k) (none_further (reach_of c)))) (λ s. s) (log_said xs), (r, k))
+  log : c.remembers ≡ true → is_further (past_of xs).reach (reach_of c) ≡ true →
+      Because (forgotten.Log (past_of xs).reach)
+  log r k = (
+    ⊎_elim (λ z. absurd (not_both _ (subst (λ (x : Reach). is_further x (reach_of c) ≡ true) z k)
+        (none_further (reach_of c)))) (λ s. s) (log_said xs),
+    (r, k),
+  )
 
   some_is : (g : Forgotten) → Because g → Causes (Some g)
   some_is g b e = subst Because same b

@@ -14,7 +14,8 @@ flag false = 0
 
 -- the start's number and mark, whether it remembers, and its view, last normal view and length of log
 abbrev pub claim_octets : Claim → List ℕ
-claim_octets c = (numeral c.start ++ numeral c.mark) ++ (flag c.remembers ∷ ((numeral c.view ++ numeral c.last_normal) ++ numeral c.length))
+claim_octets c = (numeral c.start ++ numeral c.mark) ++ (flag
+    c.remembers ∷ ((numeral c.view ++ numeral c.last_normal) ++ numeral c.length))
 
 -- the number in the eight octets from a place on
 abbrev pub number_at : ℕ → List ℕ → ℕ

@@ -14,11 +14,13 @@ use Rattle.replica_greeting.specs.Greeting.{earlier_octets, heading_octets, term
 
 -- no greeting of this cluster begins so
 abbrev pub IsForeign : ℕ → List ℕ → Type 0
-IsForeign cluster first = (sender : ℕ) → ((first ≡ heading_octets cluster sender) ⊎ (first ≡ earlier_octets cluster sender)) → ⊥
+IsForeign cluster first = (sender : ℕ) → ((first ≡ heading_octets cluster sender)
+    ⊎ (first ≡ earlier_octets cluster sender)) → ⊥
 
 -- A heading of this cluster: digests and a claim stand behind it, or digests alone, as in version 0.2.0.
 abbrev pub IsHeading : ℕ → List ℕ → Heading → Type 0
-IsHeading cluster first h = ((first ≡ heading_octets cluster h.sender) × (h.behind ≡ 137)) ⊎ ((first ≡ earlier_octets cluster h.sender) × (h.behind ≡ 96))
+IsHeading cluster first h = ((first ≡ heading_octets cluster h.sender) × (h.behind ≡ 137))
+    ⊎ ((first ≡ earlier_octets cluster h.sender) × (h.behind ≡ 96))
 
 -- what the first octets say: a heading of this cluster; or no greeting begins so, or none of this cluster
 abbrev pub Heads : ℕ → List ℕ → Result Heading WireError → Type 0
@@ -54,13 +56,15 @@ HasClaim octets (Ok (Some claim)) = (length octets ≡ 41) × (claim ≡ claim_i
 HasClaim octets (Err error.BadFrame) = (octets ≢ []) × ((length octets ≢ 41) ⊎ (1 + 1 ≤ flag_in octets))
 HasClaim octets (Err e) = ⊥
 
--- What stands behind a heading says: the terms are alike, and then comes what the start says of itself; or the named term is otherwise, and those
+-- What stands behind a heading says: the terms are alike, and then comes what the start says of itself; or the named
+-- term is otherwise, and those
 -- before it are alike; or neither digests nor a claim stand there.
 abbrev pub MeetsSender : ℕ → List ℕ → Terms → Result Met WireError → Type 0
 MeetsSender sender behind own (Ok (met.Alike from claim)) =
     (from ≡ sender) × (take 96 behind ≡ terms_octets own) × HasClaim (drop 96 behind) (Ok claim)
 MeetsSender sender behind own (Ok (met.Other from term)) = (from ≡ sender) × HasFirst (take 96 behind) own (Some term)
-MeetsSender sender behind own (Err error.BadFrame) = (length behind ≤ 95) ⊎ HasClaim (drop 96 behind) (Err error.BadFrame)
+MeetsSender sender behind own (Err error.BadFrame) = (length behind ≤ 95) ⊎ HasClaim (drop 96 behind)
+    (Err error.BadFrame)
 MeetsSender sender behind own (Err e) = ⊥
 
 -- A greeting of a sender of this cluster, of this version or of version 0.2.0, says this.
@@ -71,7 +75,8 @@ pub record IsGreeting (cluster sender : ℕ) (frame : List ℕ) (own : Terms) (m
   pub long : length (drop 13 frame) ≡ heading.behind
   pub behind : MeetsSender sender (drop 13 frame) own (Ok met)
 
--- Why a frame is no greeting of this cluster: it is too short for any, or no greeting begins so, or it isn't as long as its heading says, or what stands
+-- Why a frame is no greeting of this cluster: it is too short for any, or no greeting begins so, or it isn't as long as
+-- its heading says, or what stands
 -- behind the digests is no claim.
 abbrev pub IsNoGreeting : ℕ → List ℕ → Type 0
 IsNoGreeting cluster frame = (length (drop 13 frame) ≤ 95)
@@ -79,7 +84,8 @@ IsNoGreeting cluster frame = (length (drop 13 frame) ≤ 95)
     ⊎ ((h : Heading) × IsHeading cluster (take 13 frame) h × (length (drop 13 frame) ≢ h.behind))
     ⊎ HasClaim (drop 96 (drop 13 frame)) (Err error.BadFrame)
 
--- What a frame says: it is a greeting of a start of a replica with these terms; or one of this cluster with the named term otherwise, and those before it
+-- What a frame says: it is a greeting of a start of a replica with these terms; or one of this cluster with the named
+-- term otherwise, and those before it
 -- alike; or no greeting, or none of this cluster.
 abbrev pub HasMet : ℕ → List ℕ → Terms → Result Met WireError → Type 0
 HasMet cluster frame own (Ok (met.Alike sender claim)) = IsGreeting cluster sender frame own (met.Alike sender claim)

@@ -54,7 +54,8 @@ past_of (x ∷ xs) = said_after (past_of xs) x
 abbrev pub is_same_start : Past → Claim → Bool
 is_same_start p c = p.start == c.start && p.mark == c.mark
 
--- What a start doesn't remember of what was said: its number isn't after the last one's, its view is below one that was named, or its log doesn't go
+-- What a start doesn't remember of what was said: its number isn't after the last one's, its view is below one that was
+-- named, or its log doesn't go
 -- as far as one that was named, where it goes on from its log; nothing, where the same start greets again.
 abbrev pub judged : Past → Claim → Option Forgotten
 judged p c =
@@ -66,7 +67,8 @@ judged p c =
 -- A start comes after this: its number is greater, and it remembers as much.
 abbrev pub GoesOnFrom : Claim → Saying → Type 0
 GoesOnFrom c (Greets d) =
-    (d.start < c.start) × (d.view ≤ c.view) × (c.remembers ≡ true → d.remembers ≡ true → is_further (reach_of d) (reach_of c) ≡ false)
+    (d.start < c.start) × (d.view ≤ c.view) × (c.remembers ≡ true → d.remembers ≡ true →
+    is_further (reach_of d) (reach_of c) ≡ false)
 GoesOnFrom c (Says view reach) = (view ≤ c.view) × (c.remembers ≡ true → is_further reach (reach_of c) ≡ false)
 
 -- A start comes after all of these.
@@ -100,4 +102,5 @@ Forgets c (forgotten.Log said) = (c.remembers ≡ true) × (is_further said (rea
 
 -- A start is refused for what was said, and what it doesn't remember; one without a number is refused for that.
 abbrev pub RefusalsHaveCause : Type 0
-RefusalsHaveCause = (c : Claim) (xs : List Saying) (f : Forgotten) → 0 < c.start → judged (past_of xs) c ≡ Some f → SomeSaid f xs × Forgets c f
+RefusalsHaveCause = (c : Claim) (xs : List Saying) (f : Forgotten) → 0 < c.start → judged (past_of xs) c ≡ Some f →
+    SomeSaid f xs × Forgets c f

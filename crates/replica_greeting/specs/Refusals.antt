@@ -28,7 +28,8 @@ refusal_in octets =
     cond (slice_index octets 0 == 2)
     (cond (slice_index octets 1 == 0) (Some (forgotten.Start (first_in octets)))
     (cond (slice_index octets 1 == 1) (Some (forgotten.View (first_in octets)))
-    (cond (slice_index octets 1 == 2) (Some (forgotten.Log (record { last_normal = first_in octets; length = second_in octets }))) None))) None
+    (cond (slice_index octets 1 == 2)
+    (Some (forgotten.Log (record { last_normal = first_in octets; length = second_in octets }))) None))) None
 
 -- Numbers of 64 bits are told.
 abbrev pub IsTellable : Forgotten → Type 0

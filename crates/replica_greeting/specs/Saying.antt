@@ -1,4 +1,5 @@
--- What messages say of their sender: a view that it is in, and how far its log goes. Its files hold both before a message is sent.
+-- What messages say of their sender: a view that it is in, and how far its log goes. Its files hold both before a
+-- message is sent.
 use Rattle.std.specs.Prelude.{ℕ, ◌+◌, ◌-◌, ◌^◌, min, length, Option, Some, None}
 use Rattle.vr_state.specs.declared.message.PeerMessage.{PeerMessage}
 use Rattle.vr_state.specs.declared.message.PeerMessage.TheVariants.{Prepare, PrepareOk, Commit, StartViewChange, DoViewChange, StartView, GetState, NewState, Recovery, RecoveryResponse}

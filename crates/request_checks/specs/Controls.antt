@@ -8,7 +8,8 @@ use Rattle.request_checks.specs.declared.controls.Kind.{Kind}
 use Rattle.request_checks.specs.declared.controls.Kind.TheVariants.{Read, Update, Other}
 use Rattle.request_checks.specs.declared.controls.Named.{Named}
 
--- the control that names the number of an update: a read is of a state no older, and the response tells the number reached
+-- the control that names the number of an update: a read is of a state no older, and the response tells the number
+-- reached
 abbrev pub number_control : List ℕ
 number_control = codes "2.25.20120101"
 
@@ -70,7 +71,8 @@ named_in Read controls = with_number (number_named controls) (Ok None)
 named_in Update controls = with_number (number_named controls) (request_named controls)
 named_in Other controls = Ok (record { number = None; request = None })
 
--- What the controls of a request come to: unavailableCriticalExtension (12) for a critical one without meaning there, else protocolError (2)
+-- What the controls of a request come to: unavailableCriticalExtension (12) for a critical one without meaning there,
+-- else protocolError (2)
 -- for one with a meaning that is repeated or can't be read, else what they name. One without meaning is ignored.
 abbrev pub judged : Kind → List ControlValue → Result Named ℕ
 judged kind controls = cond (is_unavailable kind controls) (Err 12) (named_in kind controls)

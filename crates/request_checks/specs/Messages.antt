@@ -18,7 +18,12 @@ referral_to uri = record { code = 10; matched_dn = []; diagnostic_message = []; 
 -- the control that tells a number, where the request named one
 abbrev pub number_told : Option ℕ → ℕ → List ControlValue
 number_told None number = []
-number_told (Some asked) number = record { control_type = number_control; criticality = false; value = Some (decimal number) } ∷ []
+number_told (Some asked) number = record {
+  control_type = number_control;
+  criticality = false;
+  value =
+      Some (decimal number);
+} ∷ []
 
 -- the value of the response to the one update that is an extended request: its number
 abbrev pub value_for : Answering → ℕ → Option (List ℕ)

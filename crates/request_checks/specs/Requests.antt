@@ -56,7 +56,8 @@ answering_of (compare c) = Compare
 answering_of (abandon id) = Extended
 answering_of (extended_request x) = Extended
 
--- A result in a response of this kind; the value is an extended response's alone, which has no name (RFC 4511 4.2.2 to 4.12).
+-- A result in a response of this kind; the value is an extended response's alone, which has no name (RFC 4511 4.2.2 to
+-- 4.12).
 abbrev pub response_to : Answering → LdapResultValue → Option (List ℕ) → ResponseValue
 response_to Bind r value = bind_response r
 response_to Search r value = search_done r

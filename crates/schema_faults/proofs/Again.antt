@@ -20,8 +20,10 @@ turned_round false true = refl
 turned_round false false = refl
 
 -- one more name that was seen
-pub one_more_seen : (f g : List ℕ → Option ℕ) (before : List (List ℕ)) (n : List ℕ) → ((q : List ℕ) → g q ≡ cond (bytes_eq q (map to_ascii_lowercase n)) (Some 0) (f q))
-    → ((q : List ℕ) → is_some (f q) ≡ has_folded q before) → (q : List ℕ) → is_some (g q) ≡ has_folded q (before ++ n ∷ [])
+pub one_more_seen : (f g : List ℕ → Option ℕ) (before : List (List ℕ)) (n : List ℕ) →
+    ((q : List ℕ) → g q ≡ cond (bytes_eq q (map to_ascii_lowercase n)) (Some 0) (f q))
+    → ((q : List ℕ) → is_some (f q) ≡ has_folded q before) → (q : List ℕ) → is_some (g q) ≡ has_folded q
+    (before ++ n ∷ [])
 one_more_seen f g before n put seen q =
     ap is_some (put q)
     ∙ some_or (bytes_eq q (map to_ascii_lowercase n)) (f q)
@@ -33,11 +35,14 @@ one_more_seen f g before n put seen q =
 pub front_more : (names : List (Vec ℕ Global)) (i : ℕ) (x : Vec ℕ Global) → i < length names → x ≡ get_or names i x
     → map (λ v. v.items) (take (i + 1) names) ≡ map (λ v. v.items) (take i names) ++ x.items ∷ []
 front_more names i x lt is =
-    ap (map (λ (v : Vec ℕ Global). v.items)) (take_more names i x lt ∙ ap (λ (y : Vec ℕ Global). take i names ++ y ∷ []) (sym is))
+    ap (map (λ (v : Vec ℕ Global). v.items)) (take_more names i x lt
+    ∙ ap (λ (y : Vec ℕ Global). take i names ++ y ∷ []) (sym is))
     ∙ map-append (λ (v : Vec ℕ Global). v.items) (take i names) (x ∷ [])
 
-pub goes_past : (before : List (List ℕ)) (n : List ℕ) (ns : List (List ℕ)) → is_name_among before n ≡ false → again before (n ∷ ns) ≡ again (before ++ n ∷ []) ns
+pub goes_past : (before : List (List ℕ)) (n : List ℕ) (ns : List (List ℕ)) → is_name_among before n ≡ false →
+    again before (n ∷ ns) ≡ again (before ++ n ∷ []) ns
 goes_past before n ns e = rw e refl
 
-pub comes_again : (before : List (List ℕ)) (n : List ℕ) (ns : List (List ℕ)) → is_name_among before n ≡ true → again before (n ∷ ns) ≡ Some n
+pub comes_again : (before : List (List ℕ)) (n : List ℕ) (ns : List (List ℕ)) → is_name_among before n ≡ true →
+    again before (n ∷ ns) ≡ Some n
 comes_again before n ns e = rw e refl

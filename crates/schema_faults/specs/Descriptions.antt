@@ -1,4 +1,5 @@
--- What is wrong with the form of a line that is no description (RFC 4512 4.1.1, 4.1.2): the line comes in, a sentence goes out.
+-- What is wrong with the form of a line that is no description (RFC 4512 4.1.1, 4.1.2): the line comes in, a sentence
+-- goes out.
 use Rattle.std.specs.Prelude.{◌++◌, ◌||◌, ◌&&◌, ℕ, ◌+◌, ◌-◌, List, [], ◌∷◌, Bool, true, false, not, nat_eq, nat_le, cond, codes, decimal, length, take, drop, position, is_none, unwrap_or, Option, None, Some}
 use Rattle.std.specs.Str.{bytes_eq}
 use Rattle.schema_meaning.specs.ldap_words.Octets.{is_empty}
@@ -33,13 +34,15 @@ first_word line = up_to line (position (nat_eq 32) line)
 
 -- a line that begins with another word
 abbrev pub other_front : List ℕ → List ℕ
-other_front line = codes "expected 'attributeTypes: ' or 'objectClasses: ' at the front, not '" ++ word_shown (first_word line) ++ codes "'"
+other_front line = codes "expected 'attributeTypes: ' or 'objectClasses: ' at the front, not '" ++ word_shown
+    (first_word line) ++ codes "'"
 
 -- a line without a heading
 abbrev pub no_heading : List ℕ → List ℕ
 no_heading [] = other_front []
 no_heading (octet ∷ line) =
-    cond (nat_eq octet 32 || nat_eq octet 9) (codes "the line begins with a space: a description is one line, whole") (other_front (octet ∷ line))
+    cond (nat_eq octet 32 || nat_eq octet 9) (codes "the line begins with a space: a description is one line, whole")
+    (other_front (octet ∷ line))
 
 -- an octet in quotes that may not come, at this column
 abbrev pub bad_escape : ℕ → List ℕ
@@ -47,7 +50,8 @@ bad_escape column = codes "a backslash in quotes is \\5C and a quote \\27: see c
 
 -- a parenthesis that may not come: a ')' outside lists, or a '(' in one
 abbrev pub bad_parenthesis : Bool → ℕ → List ℕ
-bad_parenthesis false column = codes "the ')' at column " ++ decimal column ++ codes " ends the description, and more follows it"
+bad_parenthesis false column = codes "the ')' at column " ++ decimal column ++ codes
+    " ends the description, and more follows it"
 bad_parenthesis true column = codes "the '(' at column " ++ decimal column ++ codes " is inside another list"
 
 -- an octet that may not come, by where the reader was
@@ -101,7 +105,8 @@ unknown_word word = codes "expected a keyword, not '" ++ word_shown word ++ code
 -- a word that is no keyword of such a line
 abbrev pub no_keyword : Lines → List ℕ → List ℕ
 no_keyword ls word =
-    cond (is_elsewhere ls word) (misplaced_word ls word) (cond (is_unsupported word) (unsupported_word word) (unknown_word word))
+    cond (is_elsewhere ls word) (misplaced_word ls word) (cond (is_unsupported word) (unsupported_word word)
+    (unknown_word word))
 
 -- a keyword that needs a piece behind it, and has none or another
 abbrev pub nothing_follows : List ℕ → List ℕ → List ℕ
@@ -109,7 +114,8 @@ nothing_follows word wanted = codes "nothing follows " ++ word_shown word ++ cod
 
 -- a keyword behind which a piece stands that isn't what it needs
 abbrev pub another_follows : List ℕ → List ℕ → List ℕ → List ℕ
-another_follows word wanted argument = word_shown word ++ codes " needs " ++ wanted ++ codes ", not: " ++ word_shown argument
+another_follows word wanted argument = word_shown word ++ codes " needs " ++ wanted ++ codes ", not: " ++ word_shown
+    argument
 
 -- a keyword with nothing behind it, or with what it doesn't need
 abbrev pub bad_argument : List ℕ → List ℕ → List ℕ → List ℕ
@@ -121,7 +127,8 @@ abbrev pub waiting_for : List ℕ → FormModel → Option (List ℕ × List ℕ
 waiting_for word f = cond (is_empty f.wanted) None (Some (word, f.wanted))
 
 -- on behind a keyword, which may wait for its argument; a sentence, where the piece is no keyword
-abbrev pub keyword_at : Lines → List ℕ → Option FormModel → (Option (List ℕ × List ℕ) → Option (List ℕ)) → Option (List ℕ)
+abbrev pub keyword_at : Lines → List ℕ → Option FormModel → (Option (List ℕ × List ℕ) → Option (List ℕ)) →
+    Option (List ℕ)
 keyword_at ls word None rest = Some (no_keyword ls word)
 keyword_at ls word (Some f) rest = rest (waiting_for word f)
 
@@ -129,7 +136,8 @@ keyword_at ls word (Some f) rest = rest (waiting_for word f)
 abbrev pub field_fault_from : Lines → Option (List ℕ × List ℕ) → List (List ℕ) → Option (List ℕ)
 field_fault_from ls None [] = None
 field_fault_from ls (Some w) [] = Some (bad_argument w.0 w.1 [])
-field_fault_from ls None (piece ∷ pieces) = keyword_at ls piece (form_of ls piece) (λ waiting. field_fault_from ls waiting pieces)
+field_fault_from ls None (piece ∷ pieces) = keyword_at ls piece (form_of ls piece) (λ waiting. field_fault_from ls
+    waiting pieces)
 field_fault_from ls (Some w) (piece ∷ pieces) =
     cond (is_field ls w.0 piece) (field_fault_from ls None pieces) (Some (bad_argument w.0 w.1 piece))
 
@@ -160,7 +168,8 @@ misordered_behind (Some before) f = misordered before f
 -- on behind a keyword in its place, or behind a piece that is none; a sentence, where a keyword isn't in its place
 abbrev pub ordered_at : Option FormModel → Option FormModel → (Bool → Option FormModel → List ℕ) → List ℕ
 ordered_at last None rest = rest false last
-ordered_at last (Some f) rest = cond (may_follow last f) (rest (not (is_empty f.wanted)) (Some f)) (misordered_behind last f)
+ordered_at last (Some f) rest = cond (may_follow last f) (rest (not (is_empty f.wanted)) (Some f))
+    (misordered_behind last f)
 
 -- the first keyword that is not in its place; a piece behind one that needs an argument is none
 abbrev pub order_fault_from : Lines → Bool → Option FormModel → List (List ℕ) → List ℕ
@@ -186,7 +195,8 @@ pieces_fault ls (piece ∷ pieces) =
 -- what is between the outer parentheses, from this column on: lists and quotes are whole, or a reader stops in them
 abbrev pub stopped : Lines → List ℕ → ℕ → Stop → List ℕ
 stopped ls octets column stop =
-    cond (is_none stop.index && is_outside stop.scan) (pieces_fault ls (pieces_of octets)) (unbalanced column stop.index stop.scan)
+    cond (is_none stop.index && is_outside stop.scan) (pieces_fault ls (pieces_of octets))
+    (unbalanced column stop.index stop.scan)
 
 -- what is between the outer parentheses, read up to where a reader stops
 abbrev pub inside_fault : Lines → List ℕ → ℕ → List ℕ
@@ -195,7 +205,8 @@ inside_fault ls octets column = stopped ls octets column (stop_in octets)
 -- what is behind the first parenthesis, from this column on
 abbrev pub opened : Lines → List ℕ → ℕ → List ℕ
 opened ls octets column =
-    cond (ends_with 41 octets) (inside_fault ls (take (length octets - 1) octets) column) (codes "expected ')' at the end of the line")
+    cond (ends_with 41 octets) (inside_fault ls (take (length octets - 1) octets) column)
+    (codes "expected ')' at the end of the line")
 
 -- a line whose description doesn't begin with a parenthesis, at this column
 abbrev pub not_opened : ℕ → List ℕ

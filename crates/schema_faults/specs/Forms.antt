@@ -1,4 +1,5 @@
--- The keywords of descriptions, each with what is to follow it (RFC 4512 4.1.1, 4.1.2): a word comes in, the keyword that it is goes out.
+-- The keywords of descriptions, each with what is to follow it (RFC 4512 4.1.1, 4.1.2): a word comes in, the keyword
+-- that it is goes out.
 use Rattle.std.specs.Prelude.{ℕ, List, [], ◌∷◌, Bool, cond, codes, is_some, Option, None, Some}
 use Rattle.std.specs.Option.{option_or}
 use Rattle.schema_meaning.specs.schema_text.Words.{is_same_word, is_extension}
@@ -74,7 +75,8 @@ extension_if word = cond (is_extension word) (Some extension) None
 
 -- The keyword of a line that a word is, in any case.
 abbrev pub form_of : Lines → List ℕ → Option FormModel
-form_of ls word = option_or (form_among common_forms word) (option_or (form_among (own_forms ls) word) (extension_if word))
+form_of ls word = option_or (form_among common_forms word) (option_or (form_among (own_forms ls) word)
+    (extension_if word))
 
 -- the other kind of line
 abbrev pub other_lines : Lines → Lines

@@ -25,7 +25,8 @@ wanted_line = codes "expected a type, a colon and kinds of index, as in 'cn: eq 
 
 -- a kind of index
 abbrev pub is_kind : List ℕ → Bool
-is_kind word = bytes_eq word (codes "pres") || bytes_eq word (codes "eq") || bytes_eq word (codes "ord") || bytes_eq word (codes "sub")
+is_kind word = bytes_eq word (codes "pres") || bytes_eq word (codes "eq") || bytes_eq word (codes "ord") || bytes_eq
+    word (codes "sub")
 
 -- a word that is no kind of index
 abbrev pub no_kind : List ℕ → List ℕ
@@ -47,7 +48,8 @@ bad_kinds (octet ∷ kinds) =
 -- what is before a colon and behind it
 abbrev pub bad_parts : List ℕ → List ℕ → List ℕ
 bad_parts name kinds =
-    cond (is_oid name) (bad_kinds kinds) (codes "'" ++ word_shown name ++ codes "' is no name of a type and no object identifier")
+    cond (is_oid name) (bad_kinds kinds) (codes "'" ++ word_shown name ++ codes
+    "' is no name of a type and no object identifier")
 
 -- a line with its first colon here, or without one
 abbrev pub bad_at : List ℕ → Option ℕ → List ℕ
@@ -121,7 +123,8 @@ kinds_in line = kinds_at line (position (λ octet. nat_eq octet 58) line)
 -- what a sentence says of a line that is refused so
 abbrev pub index_line : SchemaModel → IndexRefusal → List ℕ → List ℕ
 index_line s refusal.BadDescription line = bad_line line
-index_line s refusal.UnknownName line = codes "no attribute type '" ++ word_shown (front_of line) ++ codes "' in the schema"
+index_line s refusal.UnknownName line = codes "no attribute type '" ++ word_shown (front_of line) ++ codes
+    "' in the schema"
 index_line s refusal.NoRule line = no_rule_of s (find s (front_of line)) (front_of line) (kinds_in line)
 
 -- what it says of the line of this number, counted from 1

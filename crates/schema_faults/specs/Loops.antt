@@ -27,7 +27,8 @@ along ds way (n ∷ ns) = along ds (with_described way (slice_get ds n)) ns
 
 -- the way along descriptions of these numbers: eight of them are shown
 abbrev pub way_shown : List DescriptionModel → List ℕ → List ℕ
-way_shown ds numbers = cond (nat_lt 8 (length numbers)) (along ds [] (take 8 numbers) ++ codes " to ..") (along ds [] (take 8 numbers))
+way_shown ds numbers = cond (nat_lt 8 (length numbers)) (along ds [] (take 8 numbers) ++ codes " to ..")
+    (along ds [] (take 8 numbers))
 
 -- a sentence of such a way
 abbrev pub way_sentence : List DescriptionModel → List ℕ → List ℕ
@@ -42,7 +43,8 @@ abbrev pub type_onward : ℕ → Option ℕ → (ℕ → List ℕ) → List ℕ
 type_onward start None rest = []
 type_onward start (Some u) rest = cond (nat_eq u start) (start ∷ []) (rest u)
 
--- the numbers of the types that SUP leads to from one on, itself first, back to the start; a step for each of these types at most
+-- the numbers of the types that SUP leads to from one on, itself first, back to the start; a step for each of these
+-- types at most
 abbrev pub types_from : List DescriptionModel → ℕ → ℕ → List DescriptionModel → List ℕ
 types_from types start t [] = []
 types_from types start t (x ∷ xs) = t ∷ type_onward start (type_above types t) (λ u. types_from types start u xs)
@@ -81,9 +83,11 @@ leads_back classes c between = leads_along classes c (between ++ c ∷ [])
 -- a sentence of a way of SUP from a class back to it
 abbrev pub IsWayOf : List DescriptionModel → ℕ → List ℕ → Type 0
 IsWayOf classes c sentence =
-    (between : List ℕ) × (leads_back classes c between ≡ true) × (sentence ≡ way_sentence classes (c ∷ between ++ c ∷ []))
+    (between : List ℕ) × (leads_back classes c between ≡ true)
+    × (sentence ≡ way_sentence classes (c ∷ between ++ c ∷ []))
 
 -- What is told of a class: a way of SUP from it back to it; and no way, where there is none.
 abbrev pub IsClassLoop : List DescriptionModel → ℕ → List ℕ → Type 0
 IsClassLoop classes c sentence =
-    IsWayOf classes c sentence ⊎ (((between : List ℕ) → leads_back classes c between ≡ false) × (sentence ≡ way_sentence classes []))
+    IsWayOf classes c sentence ⊎ (((between : List ℕ) → leads_back classes c between ≡ false)
+    × (sentence ≡ way_sentence classes []))

@@ -1,4 +1,5 @@
--- A description between its outer parentheses (RFC 4512 1.4): octets come in, the parts between its spaces go out, and the first octet that
+-- A description between its outer parentheses (RFC 4512 1.4): octets come in, the parts between its spaces go out, and
+-- the first octet that
 -- has no place in it.
 use Rattle.std.specs.Prelude.{◌++◌, ◌||◌, ◌&&◌, ℕ, ◌+◌, List, [], ◌∷◌, Bool, true, false, not, nat_eq, cond, unwrap_or, Option, None, Some}
 use Rattle.schema_faults.specs.declared.pieces.Scan.{Scan}
@@ -25,7 +26,8 @@ escape_step in_list octet = cond (nat_eq octet 50 || nat_eq octet 53) (Some (sca
 -- behind the second digit
 abbrev pub half_step : Bool → ℕ → ℕ → Option Scan
 half_step in_list first octet =
-    cond ((nat_eq first 50 && nat_eq octet 55) || (nat_eq first 53 && (nat_eq octet 67 || nat_eq octet 99))) (Some (scan.Quoted in_list)) None
+    cond ((nat_eq first 50 && nat_eq octet 55) || (nat_eq first 53 && (nat_eq octet 67 || nat_eq octet 99)))
+    (Some (scan.Quoted in_list)) None
 
 -- behind a further octet; none, where it may not come
 abbrev pub step : Scan → ℕ → Option Scan

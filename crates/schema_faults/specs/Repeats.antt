@@ -1,4 +1,5 @@
--- What a description of a schema has that a description before it has, or has twice (RFC 4512 1.4, 4.1): descriptions come in, a sentence
+-- What a description of a schema has that a description before it has, or has twice (RFC 4512 1.4, 4.1): descriptions
+-- come in, a sentence
 -- goes out.
 use Rattle.std.specs.Prelude.{◌++◌, ℕ, ◌+◌, List, [], ◌∷◌, nat_eq, nat_lt, cond, codes, decimal, map, slice_get, option_map, Option, None, Some}
 use Rattle.std.specs.Option.{option_and_then, option_or}
@@ -32,16 +33,19 @@ earlier_line s word line = option_or (line_before s.types word line) (line_befor
 
 -- an object identifier that a line before has, and a name that one has
 abbrev pub oid_of_line : List ℕ → ℕ → List ℕ
-oid_of_line oid line = codes "the object identifier " ++ word_shown oid ++ codes " is that of line " ++ decimal line ++ codes " too"
+oid_of_line oid line = codes "the object identifier " ++ word_shown oid ++ codes " is that of line " ++ decimal
+    line ++ codes " too"
 
 -- a name that an earlier line has too
 abbrev pub name_of_line : List ℕ → ℕ → List ℕ
-name_of_line name line = codes "the name '" ++ word_shown name ++ codes "' is that of line " ++ decimal line ++ codes " too"
+name_of_line name line = codes "the name '" ++ word_shown name ++ codes "' is that of line " ++ decimal line ++ codes
+    " too"
 
 -- the first of names that a description has which comes before this line
 abbrev pub earlier_name : SchemaTextModel → ℕ → List (List ℕ) → Option (List ℕ)
 earlier_name s line [] = None
-earlier_name s line (name ∷ names) = option_or (option_map (name_of_line name) (earlier_line s name line)) (earlier_name s line names)
+earlier_name s line (name ∷ names) = option_or (option_map (name_of_line name) (earlier_line s name line))
+    (earlier_name s line names)
 
 -- the first of names that is one of those before it, in any case
 abbrev pub again : List (List ℕ) → List (List ℕ) → Option (List ℕ)

@@ -1,4 +1,5 @@
--- What is wrong with the line of a schema's text that is refused (RFC 4512 4.1): the text, the refusal and the line's number come in, a
+-- What is wrong with the line of a schema's text that is refused (RFC 4512 4.1): the text, the refusal and the line's
+-- number come in, a
 -- sentence goes out.
 use Rattle.std.specs.Prelude.{◌≡◌, ◌++◌, ℕ, ◌-◌, List, Bool, true, false, nat_eq, codes, unwrap_or, Option, None, Some}
 use Rattle.schema_meaning.specs.Inheriting.{effect_of}
@@ -51,7 +52,8 @@ IsLoop s (Some t) class sentence = sentence ≡ type_loop s.types t.0
 -- a type without EQUALITY, by its SUP
 abbrev pub lacks_equality : List ℕ → Option (List ℕ) → List ℕ
 lacks_equality name None = codes "'" ++ name ++ codes "' has no EQUALITY, and no SUP to have it from"
-lacks_equality name (Some above) = codes "'" ++ name ++ codes "' has no EQUALITY, and none by its SUP '" ++ word_shown above ++ codes "'"
+lacks_equality name (Some above) = codes "'" ++ name ++ codes "' has no EQUALITY, and none by its SUP '" ++ word_shown
+    above ++ codes "'"
 
 -- E15: the line has a type without EQUALITY
 abbrev pub no_equality : Option (ℕ × DescriptionModel) → List ℕ
@@ -84,4 +86,5 @@ IsSentenceBy false text why line sentence = IsFault (read_text text) why line se
 
 -- What a sentence says of the line of this number, counted from 1, that is refused so.
 abbrev pub IsSchemaSentence : List ℕ → SchemaRefusal → ℕ → List ℕ → Type 0
-IsSchemaSentence text why line sentence = IsSentenceBy (is_no_description (read_text text) why line) text why line sentence
+IsSchemaSentence text why line sentence = IsSentenceBy (is_no_description (read_text text) why line) text why line
+    sentence

@@ -1,4 +1,5 @@
--- What is wrong with a description among the others of a schema (RFC 4512 4.1): the descriptions come in, a sentence goes out.
+-- What is wrong with a description among the others of a schema (RFC 4512 4.1): the descriptions come in, a sentence
+-- goes out.
 use Rattle.std.specs.Prelude.{◌++◌, ℕ, List, [], Bool, false, cond, codes, is_none, slice_get, Option, None, Some}
 use Rattle.std.specs.List.{filter}
 use Rattle.ldap_match.specs.ldap_schema.Schema.{first_name_of}
@@ -61,7 +62,8 @@ abbrev pub unknown_of_class : SchemaTextModel → DescriptionModel → List ℕ
 unknown_of_class s d =
     missing_or d (codes "object class") (codes "SUP") (uncalled s.classes d 4)
     (missing_or d (codes "attribute type") (codes "MUST") (uncalled s.types d 12)
-    (missing_or d (codes "attribute type") (codes "MAY") (uncalled s.types d 13) (codes "a class or a type that is not there")))
+    (missing_or d (codes "attribute type") (codes "MAY") (uncalled s.types d 13)
+    (codes "a class or a type that is not there")))
 
 -- what each schema has, and this one lacks (RFC 4512 3.3, 4.2)
 abbrev pub unknown_at_end : SchemaTextModel → List ℕ

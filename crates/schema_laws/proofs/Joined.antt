@@ -35,7 +35,8 @@ all_of P (x ∷ xs) h = All-cons P x xs h.0 (all_of P xs h.1)
 -- ---- names of types
 
 other_octet : (b k : ℕ) (q : Bool) → nat_eq b k ≡ q → is_name_octet b ≡ true → is_name_octet k ≡ false → q ≡ false
-other_octet b k true e h l = let s : b ≡ k = eqb-true b k e in let z : true ≡ false = sym h ∙ ap is_name_octet s ∙ l in z
+other_octet b k true e h l = let s : b ≡ k = eqb-true b k e in let z : true ≡ false = sym h ∙ ap is_name_octet s
+    ∙ l in z
 other_octet b k false e h l = refl
 
 lacks_octet : (b k : ℕ) → is_name_octet b ≡ true → is_name_octet k ≡ false → nat_eq b k ≡ false
@@ -45,7 +46,8 @@ name_spelled : (n : List ℕ) → AllByRecursion (λ b. is_name_octet b ≡ true
 name_spelled [] h = nothing
 name_spelled (b ∷ n) h = as_it_stands b (lacks_octet b 92 h.0 refl) (name_spelled n h.1)
 
-name_lacks : (k : ℕ) → is_name_octet k ≡ false → (n : List ℕ) → AllByRecursion (λ b. is_name_octet b ≡ true) n → AllByRecursion (λ t. is_plain k t ≡ false) (map Plain n)
+name_lacks : (k : ℕ) → is_name_octet k ≡ false → (n : List ℕ) → AllByRecursion (λ b. is_name_octet b ≡ true) n →
+    AllByRecursion (λ t. is_plain k t ≡ false) (map Plain n)
 name_lacks k l [] h = tt
 name_lacks k l (b ∷ n) h = (lacks_octet b k h.0 l, name_lacks k l n h.1)
 
@@ -57,7 +59,8 @@ all_unescaped : (n : List ℕ) → list_all is_unescaped (map Plain n) ≡ true
 all_unescaped [] = refl
 all_unescaped (b ∷ n) = all_unescaped n
 
-type_read : (s : SchemaModel) (n : List ℕ) (k : ℕ) → AllByRecursion (λ b. is_name_octet b ≡ true) n → find s n ≡ Some k → type_of s (trimmed (map Plain n)) ≡ Some k
+type_read : (s : SchemaModel) (n : List ℕ) (k : ℕ) → AllByRecursion (λ b. is_name_octet b ≡ true) n →
+    find s n ≡ Some k → type_of s (trimmed (map Plain n)) ≡ Some k
 type_read s n k h f =
     ap (type_of s) (whole_by (map Plain n) (name_lacks 32 refl n h))
     ∙ ap (λ b. cond b (find s (map octet_of (map Plain n))) None) (all_unescaped n)
@@ -70,11 +73,14 @@ type_read s n k h f =
 abbrev pub tokens_of_pair : SchemaModel → TypeAndValue → List Token
 tokens_of_pair s v = map Plain (type_name s v.kind) ++ Plain 61 ∷ tokens_of_value v.value
 
-pub pair_spelled : (s : SchemaModel) (v : TypeAndValue) → IsReadable s v → IsSpelled (printed_type_and_value s v) (tokens_of_pair s v)
+pub pair_spelled : (s : SchemaModel) (v : TypeAndValue) → IsReadable s v → IsSpelled (printed_type_and_value s v)
+    (tokens_of_pair s v)
 pair_spelled s v r =
-    spelled_append (name_spelled (type_name s v.kind) (all_tests is_name_octet (type_name s v.kind) r.is_plain)) (as_it_stands 61 refl (value_spelled true (chars v.value)))
+    spelled_append (name_spelled (type_name s v.kind) (all_tests is_name_octet (type_name s v.kind) r.is_plain))
+    (as_it_stands 61 refl (value_spelled true (chars v.value)))
 
-sign_at : (ts us : List Token) (t : Token) → is_plain 61 t ≡ true → AllByRecursion (λ t. is_plain 61 t ≡ false) ts → position_or_len (is_plain 61) (ts ++ t ∷ us) ≡ length ts
+sign_at : (ts us : List Token) (t : Token) → is_plain 61 t ≡ true → AllByRecursion (λ t. is_plain 61 t ≡ false) ts →
+    position_or_len (is_plain 61) (ts ++ t ∷ us) ≡ length ts
 sign_at [] us t e h = ap (λ b. cond (not b) (1 + position_or_len (is_plain 61) us) 0) e
 sign_at (u ∷ ts) us t e h =
     ap (λ b. cond (not b) (1 + position_or_len (is_plain 61) (ts ++ t ∷ us)) 0) h.0
@@ -94,17 +100,20 @@ behind : (ts us : List Token) (t : Token) → drop (suc (length ts)) (ts ++ t �
 behind [] us t = refl
 behind (u ∷ ts) us t = behind ts us t
 
-pub pair_read : (s : SchemaModel) (v : TypeAndValue) → IsReadable s v → type_and_value_of s (tokens_of_pair s v) ≡ Some v
+pub pair_read : (s : SchemaModel) (v : TypeAndValue) → IsReadable s v → type_and_value_of s (tokens_of_pair s v) ≡
+    Some v
 pair_read s v r =
     let n = type_name s v.kind in
     let names = all_tests is_name_octet n r.is_plain in
     let ts = map Plain n in
     let us = tokens_of_value v.value in
     let at : position (is_plain 61) (ts ++ Plain 61 ∷ us) ≡ Some (length ts) =
-    found_at (length ts) (length (ts ++ Plain 61 ∷ us)) _ (sign_at ts us (Plain 61) refl (name_lacks 61 refl n names)) (omega (arith, length-append ts (Plain 61 ∷ us))) in
+    found_at (length ts) (length (ts ++ Plain 61 ∷ us)) _ (sign_at ts us (Plain 61) refl (name_lacks 61 refl n names))
+    (omega (arith, length-append ts (Plain 61 ∷ us))) in
     let e : length ts + 1 ≡ suc (length ts) = omega arith in
     ap (type_and_value_at s (ts ++ Plain 61 ∷ us)) at
-    ∙ ap₂ (λ (x y : List Token). paired (type_of s (trimmed x)) (value_of (trimmed y))) (front_of ts (Plain 61 ∷ us)) (ap (λ m. drop m (ts ++ Plain 61 ∷ us)) e ∙ behind ts us (Plain 61))
+    ∙ ap₂ (λ (x y : List Token). paired (type_of s (trimmed x)) (value_of (trimmed y))) (front_of ts (Plain 61 ∷ us))
+    (ap (λ m. drop m (ts ++ Plain 61 ∷ us)) e ∙ behind ts us (Plain 61))
     ∙ ap₂ paired (type_read s n v.kind names r.is_found) (value_read v.value r.is_text)
 
 not_true : (b : Bool) → not b ≡ true → b ≡ false
@@ -113,33 +122,44 @@ not_true false h = refl
 
 no_plus : (t : Token) → is_value_octet t ≡ true → is_plain 43 t ≡ false
 no_plus t h =
-    let a = not_true (is_plain 34 t || is_plain 43 t || is_plain 44 t || is_plain 59 t || is_plain 60 t || is_plain 62 t || is_plain 0 t) h in
+    let a = not_true (is_plain 34 t || is_plain 43 t || is_plain 44 t || is_plain 59 t || is_plain 60 t || is_plain 62
+    t || is_plain 0 t) h in
     not_right (is_plain 34 t) (is_plain 43 t)
     (not_left (is_plain 34 t || is_plain 43 t) (is_plain 44 t)
     (not_left (is_plain 34 t || is_plain 43 t || is_plain 44 t) (is_plain 59 t)
     (not_left (is_plain 34 t || is_plain 43 t || is_plain 44 t || is_plain 59 t) (is_plain 60 t)
     (not_left (is_plain 34 t || is_plain 43 t || is_plain 44 t || is_plain 59 t || is_plain 60 t) (is_plain 62 t)
-    (not_left (is_plain 34 t || is_plain 43 t || is_plain 44 t || is_plain 59 t || is_plain 60 t || is_plain 62 t) (is_plain 0 t) a)))))
+    (not_left (is_plain 34 t || is_plain 43 t || is_plain 44 t || is_plain 59 t || is_plain 60 t || is_plain 62 t)
+    (is_plain 0 t) a)))))
 
 no_comma : (t : Token) → is_value_octet t ≡ true → is_plain 44 t ≡ false
 no_comma t h =
-    let a = not_true (is_plain 34 t || is_plain 43 t || is_plain 44 t || is_plain 59 t || is_plain 60 t || is_plain 62 t || is_plain 0 t) h in
+    let a = not_true (is_plain 34 t || is_plain 43 t || is_plain 44 t || is_plain 59 t || is_plain 60 t || is_plain 62
+    t || is_plain 0 t) h in
     not_right (is_plain 34 t || is_plain 43 t) (is_plain 44 t)
     (not_left (is_plain 34 t || is_plain 43 t || is_plain 44 t) (is_plain 59 t)
     (not_left (is_plain 34 t || is_plain 43 t || is_plain 44 t || is_plain 59 t) (is_plain 60 t)
     (not_left (is_plain 34 t || is_plain 43 t || is_plain 44 t || is_plain 59 t || is_plain 60 t) (is_plain 62 t)
-    (not_left (is_plain 34 t || is_plain 43 t || is_plain 44 t || is_plain 59 t || is_plain 60 t || is_plain 62 t) (is_plain 0 t) a))))
+    (not_left (is_plain 34 t || is_plain 43 t || is_plain 44 t || is_plain 59 t || is_plain 60 t || is_plain 62 t)
+    (is_plain 0 t) a))))
 
-pair_lacks : (k : ℕ) → is_name_octet k ≡ false → nat_eq 61 k ≡ false → ((t : Token) → is_value_octet t ≡ true → is_plain k t ≡ false) → (s : SchemaModel) (v : TypeAndValue) → IsReadable s v → AllByRecursion (λ t. is_plain k t ≡ false) (tokens_of_pair s v)
+pair_lacks : (k : ℕ) → is_name_octet k ≡ false → nat_eq 61 k ≡ false → ((t : Token) → is_value_octet t ≡ true →
+    is_plain k t ≡ false) → (s : SchemaModel) (v : TypeAndValue) → IsReadable s v →
+    AllByRecursion (λ t. is_plain k t ≡ false) (tokens_of_pair s v)
 pair_lacks k l e f s v r =
     all_append (λ t. is_plain k t ≡ false) (map Plain (type_name s v.kind)) (Plain 61 ∷ tokens_of_value v.value)
-    (name_lacks k l (type_name s v.kind) (all_tests is_name_octet (type_name s v.kind) r.is_plain))
-    (e, all_map (λ t. is_value_octet t ≡ true) (λ t. is_plain k t ≡ false) f (tokens_of_value v.value) (value_allowed true (chars v.value)))
+    (name_lacks k l (type_name s v.kind) (all_tests is_name_octet (type_name s v.kind) r.is_plain)) (
+      e,
+      all_map (λ t. is_value_octet t ≡ true) (λ t. is_plain k t ≡ false) f (tokens_of_value v.value) (value_allowed
+          true (chars v.value)),
+    )
 
-pub pair_lacks_plus : (s : SchemaModel) (v : TypeAndValue) → IsReadable s v → AllByRecursion (λ t. is_plain 43 t ≡ false) (tokens_of_pair s v)
+pub pair_lacks_plus : (s : SchemaModel) (v : TypeAndValue) → IsReadable s v →
+    AllByRecursion (λ t. is_plain 43 t ≡ false) (tokens_of_pair s v)
 pair_lacks_plus s v r = pair_lacks 43 refl refl no_plus s v r
 
-pub pair_lacks_comma : (s : SchemaModel) (v : TypeAndValue) → IsReadable s v → AllByRecursion (λ t. is_plain 44 t ≡ false) (tokens_of_pair s v)
+pub pair_lacks_comma : (s : SchemaModel) (v : TypeAndValue) → IsReadable s v →
+    AllByRecursion (λ t. is_plain 44 t ≡ false) (tokens_of_pair s v)
 pair_lacks_comma s v r = pair_lacks 44 refl refl no_comma s v r
 
 -- ---- parts with a separator between them
@@ -148,26 +168,36 @@ abbrev pub joined : ℕ → List (List Token) → List Token
 joined c [] = []
 joined c (t ∷ ts) = t ++ flat_map (λ y. Plain c ∷ y) ts
 
-flat_spelled : {A : Type 0} (f : A → List ℕ) (g : A → List Token) (c : ℕ) → nat_eq c 92 ≡ false → (xs : List A) → AllByRecursion (λ a. IsSpelled (f a) (g a)) xs → IsSpelled (flat_map (λ y. c ∷ y) (map f xs)) (flat_map (λ y. Plain c ∷ y) (map g xs))
+flat_spelled : {A : Type 0} (f : A → List ℕ) (g : A → List Token) (c : ℕ) → nat_eq c 92 ≡ false → (xs : List A) →
+    AllByRecursion (λ a. IsSpelled (f a) (g a)) xs → IsSpelled (flat_map (λ y. c ∷ y) (map f xs))
+    (flat_map (λ y. Plain c ∷ y) (map g xs))
 flat_spelled f g c e [] h = nothing
 flat_spelled f g c e (x ∷ xs) h = as_it_stands c e (spelled_append h.0 (flat_spelled f g c e xs h.1))
 
-pub joined_spelled : {A : Type 0} (f : A → List ℕ) (g : A → List Token) (c : ℕ) → nat_eq c 92 ≡ false → (xs : List A) → AllByRecursion (λ a. IsSpelled (f a) (g a)) xs → IsSpelled (separated c (map f xs)) (joined c (map g xs))
+pub joined_spelled : {A : Type 0} (f : A → List ℕ) (g : A → List Token) (c : ℕ) → nat_eq c 92 ≡ false →
+    (xs : List A) → AllByRecursion (λ a. IsSpelled (f a) (g a)) xs → IsSpelled (separated c (map f xs))
+    (joined c (map g xs))
 joined_spelled f g c e [] h = nothing
 joined_spelled f g c e (x ∷ xs) h = spelled_append h.0 (flat_spelled f g c e xs h.1)
 
-flat_parted : (c : ℕ) (t : List Token) (ts : List (List Token)) → AllByRecursion (λ x. is_plain c x ≡ false) t → AllByRecursion (λ t. AllByRecursion (λ x. is_plain c x ≡ false) t) ts → IsParted c (t ++ flat_map (λ y. Plain c ∷ y) ts) (t ∷ ts)
-flat_parted c t [] l h = subst (λ x. IsParted c x (t ∷ [])) (sym (append-nil t)) (is_last t (all_of (λ x. is_plain c x ≡ false) t l))
+flat_parted : (c : ℕ) (t : List Token) (ts : List (List Token)) → AllByRecursion (λ x. is_plain c x ≡ false) t →
+    AllByRecursion (λ t. AllByRecursion (λ x. is_plain c x ≡ false) t) ts →
+    IsParted c (t ++ flat_map (λ y. Plain c ∷ y) ts) (t ∷ ts)
+flat_parted c t [] l h = subst (λ x. IsParted c x (t ∷ [])) (sym (append-nil t))
+    (is_last t (all_of (λ x. is_plain c x ≡ false) t l))
 flat_parted c t (u ∷ us) l h = has_more t (all_of (λ x. is_plain c x ≡ false) t l) (flat_parted c u us h.0 h.1)
 
-pub joined_parted : (c : ℕ) (ts : List (List Token)) → 0 < length ts → AllByRecursion (λ t. AllByRecursion (λ x. is_plain c x ≡ false) t) ts → IsParted c (joined c ts) ts
+pub joined_parted : (c : ℕ) (ts : List (List Token)) → 0 < length ts →
+    AllByRecursion (λ t. AllByRecursion (λ x. is_plain c x ≡ false) t) ts → IsParted c (joined c ts) ts
 joined_parted c [] lt h = absurd (omega (arith, lt))
 joined_parted c (t ∷ ts) lt h = flat_parted c t ts h.0 h.1
 
-flat_all : (P : Token → Type 0) (c : ℕ) → P (Plain c) → (ts : List (List Token)) → AllByRecursion (λ t. AllByRecursion P t) ts → AllByRecursion P (flat_map (λ y. Plain c ∷ y) ts)
+flat_all : (P : Token → Type 0) (c : ℕ) → P (Plain c) → (ts : List (List Token)) →
+    AllByRecursion (λ t. AllByRecursion P t) ts → AllByRecursion P (flat_map (λ y. Plain c ∷ y) ts)
 flat_all P c e [] h = tt
 flat_all P c e (t ∷ ts) h = (e, all_append P t (flat_map (λ y. Plain c ∷ y) ts) h.0 (flat_all P c e ts h.1))
 
-pub joined_all : (P : Token → Type 0) (c : ℕ) → P (Plain c) → (ts : List (List Token)) → AllByRecursion (λ t. AllByRecursion P t) ts → AllByRecursion P (joined c ts)
+pub joined_all : (P : Token → Type 0) (c : ℕ) → P (Plain c) → (ts : List (List Token)) →
+    AllByRecursion (λ t. AllByRecursion P t) ts → AllByRecursion P (joined c ts)
 joined_all P c e [] h = tt
 joined_all P c e (t ∷ ts) h = all_append P t (flat_map (λ y. Plain c ∷ y) ts) h.0 (flat_all P c e ts h.1)

@@ -41,14 +41,24 @@ pub record IsFree (first last : Bool) (b : ℕ) : Type 0 where
 
 high_is_free : (first last : Bool) (b : ℕ) → 128 ≤ b → IsFree first last b
 high_is_free first last b h = record {
-  special = rw (apart b 34 h (omega arith), apart b 43 h (omega arith), apart b 44 h (omega arith), apart b 59 h (omega arith), apart b 60 h (omega arith), apart b 62 h (omega arith), apart b 92 h (omega arith)) refl;
+  special = rw (
+    apart b 34 h (omega arith),
+    apart b 43 h (omega arith),
+    apart b 44 h (omega
+        arith),
+    apart b 59 h (omega arith),
+    apart b 60 h (omega arith),
+    apart b 62 h (omega arith),
+    apart b 92 h (omega arith),
+  ) refl;
   zero = apart b 0 h (omega arith);
   space_first = λ e. apart b 32 h (omega arith);
   hash_first = λ e. apart b 35 h (omega arith);
   space_last = λ e. apart b 32 h (omega arith);
 }
 
-unescaped_is_free : (first last : Bool) (c : ℕ) → is_escaped first last c ≡ false → nat_eq c 0 ≡ false → IsFree first last c
+unescaped_is_free : (first last : Bool) (c : ℕ) → is_escaped first last c ≡ false → nat_eq c 0 ≡ false →
+    IsFree first last c
 unescaped_is_free first last c e z =
     let ends = not_left (is_special c || (first && (nat_eq c 32 || nat_eq c 35))) (last && nat_eq c 32) e in
     let firsts = not_right (is_special c) (first && (nat_eq c 32 || nat_eq c 35)) ends in
@@ -57,17 +67,20 @@ unescaped_is_free first last c e z =
       zero = z;
       space_first = λ f. not_left (nat_eq c 32) (nat_eq c 35) (not_both first (nat_eq c 32 || nat_eq c 35) f firsts);
       hash_first = λ f. not_right (nat_eq c 32) (nat_eq c 35) (not_both first (nat_eq c 32 || nat_eq c 35) f firsts);
-      space_last = λ l. not_both last (nat_eq c 32) l (not_right (is_special c || (first && (nat_eq c 32 || nat_eq c 35))) (last && nat_eq c 32) e);
+      space_last = λ l. not_both last (nat_eq c 32) l
+          (not_right (is_special c || (first && (nat_eq c 32 || nat_eq c 35))) (last && nat_eq c 32) e);
     }
 
 from_places : (P : ℕ → Type 0) (xs : List ℕ) → ((k : ℕ) → k < length xs → P (get_or xs k 0)) → AllByRecursion P xs
 from_places P [] h = tt
 from_places P (x ∷ xs) h = (h 0 (omega arith), from_places P xs (λ k lt. h (suc k) (omega (arith, lt))))
 
-pub octets_are_free : (first last : Bool) (c : ℕ) → IsFree first last c → AllByRecursion (IsFree first last) (encode_utf8 c)
+pub octets_are_free : (first last : Bool) (c : ℕ) → IsFree first last c → AllByRecursion (IsFree first last)
+    (encode_utf8 c)
 octets_are_free first last c f = from_places (IsFree first last) (encode_utf8 c) (λ k lt.
     elim (cases_lt (get_or (encode_utf8 c) k 0) 128) [
-      | inl low ↦ subst (IsFree first last) (inside_one c [] (encode_utf8 c) k (sym (append-nil (encode_utf8 c))) lt low) f
+      | inl low ↦ subst (IsFree first last) (inside_one c [] (encode_utf8 c) k (sym (append-nil (encode_utf8 c))) lt
+          low) f
       | inr high ↦ high_is_free first last (get_or (encode_utf8 c) k 0) high
     ])
 
@@ -81,9 +94,16 @@ pub record IsGood (first last : Bool) (t : Token) : Type 0 where
   pub space_last : last ≡ true → is_plain 32 t ≡ false
 
 escaped_is_good : (first last : Bool) (c : ℕ) → IsGood first last (Escaped c)
-escaped_is_good first last c = record { allowed = refl; space_first = λ e. refl; hash_first = λ e. refl; space_last = λ e. refl }
+escaped_is_good first last c = record {
+  allowed = refl;
+  space_first = λ e. refl;
+  hash_first = λ e. refl;
+  space_last =
+      λ e. refl;
+}
 
-allowed_by : (b : ℕ) (q34 q43 q44 q59 q60 q62 q92 q0 : Bool) → (q34 || q43 || q44 || q59 || q60 || q62 || q92) ≡ false → q0 ≡ false → not (q34 || q43 || q44 || q59 || q60 || q62 || q0) ≡ true
+allowed_by : (b : ℕ) (q34 q43 q44 q59 q60 q62 q92 q0 : Bool) → (q34 || q43 || q44 || q59 || q60 || q62 || q92) ≡
+    false → q0 ≡ false → not (q34 || q43 || q44 || q59 || q60 || q62 || q0) ≡ true
 allowed_by b false false false false false false q92 false h z = refl
 allowed_by b q34 q43 q44 q59 q60 q62 q92 true h z = cc
 allowed_by b true q43 q44 q59 q60 q62 q92 q0 h z = cc
@@ -95,17 +115,20 @@ allowed_by b false false false false false true q92 q0 h z = cc
 
 free_is_good : (first last : Bool) (b : ℕ) → IsFree first last b → IsGood first last (Plain b)
 free_is_good first last b f = record {
-  allowed = allowed_by b (nat_eq b 34) (nat_eq b 43) (nat_eq b 44) (nat_eq b 59) (nat_eq b 60) (nat_eq b 62) (nat_eq b 92) (nat_eq b 0) f.special f.zero;
+  allowed = allowed_by b (nat_eq b 34) (nat_eq b 43) (nat_eq b 44) (nat_eq b 59) (nat_eq b 60) (nat_eq b 62)
+      (nat_eq b 92) (nat_eq b 0) f.special f.zero;
   space_first = f.space_first;
   hash_first = f.hash_first;
   space_last = f.space_last;
 }
 
-frees_are_good : (first last : Bool) (bs : List ℕ) → AllByRecursion (IsFree first last) bs → AllByRecursion (IsGood first last) (map Plain bs)
+frees_are_good : (first last : Bool) (bs : List ℕ) → AllByRecursion (IsFree first last) bs →
+    AllByRecursion (IsGood first last) (map Plain bs)
 frees_are_good first last [] h = tt
 frees_are_good first last (b ∷ bs) h = (free_is_good first last b h.0, frees_are_good first last bs h.1)
 
-no_backslash : (b : ℕ) (q34 q43 q44 q59 q60 q62 q92 : Bool) → (q34 || q43 || q44 || q59 || q60 || q62 || q92) ≡ false → q92 ≡ false
+no_backslash : (b : ℕ) (q34 q43 q44 q59 q60 q62 q92 : Bool) → (q34 || q43 || q44 || q59 || q60 || q62 || q92) ≡
+    false → q92 ≡ false
 no_backslash b q34 q43 q44 q59 q60 q62 false h = refl
 no_backslash b true q43 q44 q59 q60 q62 true h = cc
 no_backslash b false true q44 q59 q60 q62 true h = cc
@@ -115,10 +138,12 @@ no_backslash b false false false false true q62 true h = cc
 no_backslash b false false false false false true true h = cc
 no_backslash b false false false false false false true h = cc
 
-frees_are_spelled : (first last : Bool) (bs : List ℕ) → AllByRecursion (IsFree first last) bs → IsSpelled bs (map Plain bs)
+frees_are_spelled : (first last : Bool) (bs : List ℕ) → AllByRecursion (IsFree first last) bs →
+    IsSpelled bs (map Plain bs)
 frees_are_spelled first last [] h = nothing
 frees_are_spelled first last (b ∷ bs) h =
-    as_it_stands b (no_backslash b (nat_eq b 34) (nat_eq b 43) (nat_eq b 44) (nat_eq b 59) (nat_eq b 60) (nat_eq b 62) (nat_eq b 92) h.0.special) (frees_are_spelled first last bs h.1)
+    as_it_stands b (no_backslash b (nat_eq b 34) (nat_eq b 43) (nat_eq b 44) (nat_eq b 59) (nat_eq b 60) (nat_eq b 62)
+    (nat_eq b 92) h.0.special) (frees_are_spelled first last bs h.1)
 
 pub plain_octets : (bs : List ℕ) → map octet_of (map Plain bs) ≡ bs
 plain_octets [] = refl
@@ -128,7 +153,8 @@ plain_octets (b ∷ bs) = ap (λ (x : List ℕ). b ∷ x) (plain_octets bs)
 
 -- the tokens of a character
 abbrev pub tokens_of_character : Bool → ℕ → List Token
-tokens_of_character escaped c = cond (nat_eq c 0) (Escaped 0 ∷ []) (cond escaped (Escaped c ∷ []) (map Plain (encode_utf8 c)))
+tokens_of_character escaped c = cond (nat_eq c 0) (Escaped 0 ∷ []) (cond escaped (Escaped c ∷ [])
+    (map Plain (encode_utf8 c)))
 
 -- what is printed of a character, and what is read of that
 pub record IsWell (first last : Bool) (c : ℕ) (printed : List ℕ) (ts : List Token) : Type 0 where
@@ -160,7 +186,8 @@ special_is_small c h =
     (λ h. either (nat_eq c 34 || nat_eq c 43 || nat_eq c 44 || nat_eq c 59) (nat_eq c 60) h
     (λ h. either (nat_eq c 34 || nat_eq c 43 || nat_eq c 44) (nat_eq c 59) h
     (λ h. either (nat_eq c 34 || nat_eq c 43) (nat_eq c 44) h
-    (λ h. either (nat_eq c 34) (nat_eq c 43) h (λ e. small_at c 34 e (omega arith) refl) (λ e. small_at c 43 e (omega arith) refl))
+    (λ h. either (nat_eq c 34) (nat_eq c 43) h (λ e. small_at c 34 e (omega arith) refl)
+    (λ e. small_at c 43 e (omega arith) refl))
     (λ e. small_at c 44 e (omega arith) refl))
     (λ e. small_at c 59 e (omega arith) refl))
     (λ e. small_at c 60 e (omega arith) refl))
@@ -171,18 +198,21 @@ escaped_is_small : (first last : Bool) (c : ℕ) → is_escaped first last c ≡
 escaped_is_small first last c h =
     either (is_special c || (first && (nat_eq c 32 || nat_eq c 35))) (last && nat_eq c 32) h
     (λ h. either (is_special c) (first && (nat_eq c 32 || nat_eq c 35)) h (special_is_small c)
-    (λ h. either (nat_eq c 32) (nat_eq c 35) (right_of first (nat_eq c 32 || nat_eq c 35) h) (λ e. small_at c 32 e (omega arith) refl) (λ e. small_at c 35 e (omega arith) refl)))
+    (λ h. either (nat_eq c 32) (nat_eq c 35) (right_of first (nat_eq c 32 || nat_eq c 35) h)
+    (λ e. small_at c 32 e (omega arith) refl) (λ e. small_at c 35 e (omega arith) refl)))
     (λ h. small_at c 32 (right_of last (nat_eq c 32) h) (omega arith) refl)
 
 some_octets : (c : ℕ) → 0 < length (encode_utf8 c)
-some_octets c = let e : length (encode_utf8 c) ≡ len_utf8 c = length-encode c in let h : 0 < len_utf8 c = grind (arith, nat_tests) in omega arith
+some_octets c = let e : length (encode_utf8 c) ≡ len_utf8 c = length-encode c in let h : 0 < len_utf8 c =
+    grind (arith, nat_tests) in omega arith
 
 length_plain : (bs : List ℕ) → length (map Plain bs) ≡ length bs
 length_plain [] = refl
 length_plain (b ∷ bs) = ap suc (length_plain bs)
 
 well_by : (first last : Bool) (c : ℕ) (z e : Bool) → nat_eq c 0 ≡ z → is_escaped first last c ≡ e
-    → IsWell first last c (cond z (92 ∷ 48 ∷ 48 ∷ []) (cond e (92 ∷ encode_utf8 c) (encode_utf8 c))) (cond z (Escaped 0 ∷ []) (cond e (Escaped c ∷ []) (map Plain (encode_utf8 c))))
+    → IsWell first last c (cond z (92 ∷ 48 ∷ 48 ∷ []) (cond e (92 ∷ encode_utf8 c) (encode_utf8 c)))
+    (cond z (Escaped 0 ∷ []) (cond e (Escaped c ∷ []) (map Plain (encode_utf8 c))))
 well_by first last c true e z h =
     let s : c ≡ 0 = eqb-true c 0 z in
     record {
@@ -209,5 +239,6 @@ well_by first last c false false z h =
       some = omega (arith, length_plain (encode_utf8 c), some_octets c);
     }
 
-pub character_is_well : (first last : Bool) (c : ℕ) → IsWell first last c (printed_character (is_escaped first last c) c) (tokens_of_character (is_escaped first last c) c)
+pub character_is_well : (first last : Bool) (c : ℕ) → IsWell first last c (printed_character (is_escaped first last c)
+    c) (tokens_of_character (is_escaped first last c) c)
 character_is_well first last c = well_by first last c (nat_eq c 0) (is_escaped first last c) refl refl

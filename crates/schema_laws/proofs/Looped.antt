@@ -14,10 +14,13 @@ use Rattle.schema_laws.proofs.ReadNames.{found_low}
 use Rattle.schema_laws.proofs.Walks.{AreWithin, first_step, goes_back, is_looping, under_from, from_under, low_in}
 
 -- the type of a description
-pub type_is : (all : List DescriptionModel) (t : ℕ) (d : DescriptionModel) → slice_get all t ≡ Some d → slice_get (types_from all 0 all) t ≡ Some (type_with all d (effect_of all t))
-type_is all t d e = let first : 0 + t ≡ t = omega arith in type_at all all 0 t d e ∙ ap (λ n. Some (type_with all d (effect_of all n))) first
+pub type_is : (all : List DescriptionModel) (t : ℕ) (d : DescriptionModel) → slice_get all t ≡ Some d →
+    slice_get (types_from all 0 all) t ≡ Some (type_with all d (effect_of all t))
+type_is all t d e = let first : 0 + t ≡ t = omega arith in type_at all all 0 t d e
+    ∙ ap (λ n. Some (type_with all d (effect_of all n))) first
 
-pub superior_is : (all : List DescriptionModel) (t : ℕ) (d : DescriptionModel) → slice_get all t ≡ Some d → superior_of (types_from all 0 all) t ≡ naming.superior_of all d
+pub superior_is : (all : List DescriptionModel) (t : ℕ) (d : DescriptionModel) → slice_get all t ≡ Some d →
+    superior_of (types_from all 0 all) t ≡ naming.superior_of all d
 superior_is all t d e = ap superior_in (type_is all t d e)
 
 found_within : (all : List DescriptionModel) (o : Option (List ℕ)) (u : ℕ) → found_by all o ≡ Some u → u < length all
@@ -35,6 +38,12 @@ pub loops_of_types : LoopsOfTypesLeadBack
 loops_of_types text t =
     let all = (read_text text).types in
     let s = schema_of (read_text text) in (
-      λ h. let g = goes_back s.types (length s.types) t h in record { first = g.first; goes = g.goes; comes_back = under_from s g.k g.first t g.comes },
-      λ b. let z = from_under s b.comes_back in is_looping s.types (are_within all) (suc z.0) t (record { some = omega arith; back = first_step s.types z.0 t b.first b.goes ∙ z.1 }),
+      λ h. let g = goes_back s.types (length s.types) t h in record {
+        first = g.first;
+        goes = g.goes;
+        comes_back =
+            under_from s g.k g.first t g.comes;
+      },
+      λ b. let z = from_under s b.comes_back in is_looping s.types (are_within all) (suc z.0) t
+          (record { some = omega arith; back = first_step s.types z.0 t b.first b.goes ∙ z.1 }),
     )

@@ -34,18 +34,26 @@ record HasKey (s : SchemaModel) (js : List TypeAndKey) (v : TypeAndValue) : Type
   is : type_and_key_of s v ≡ Some k
   held : Holds k js
 
-each_has : (s : SchemaModel) (ks : List TypeAndKey) (vs : List TypeAndValue) (js : List TypeAndKey) → keys_from s ks vs ≡ Some js → AllByRecursion (HasKey s js) vs
+each_has : (s : SchemaModel) (ks : List TypeAndKey) (vs : List TypeAndValue) (js : List TypeAndKey) →
+    keys_from s ks vs ≡ Some js → AllByRecursion (HasKey s js) vs
 each_has s ks [] js h = tt
 each_has s ks (v ∷ vs) js h =
     let b = begins s ks v vs js h in (
-      record { k = b.place.k; is = b.place.is; held = stays s b.place.k b.ls vs js b.rest (subst (Holds b.place.k) b.place.there (now_there b.place.k b.place.n ks)) },
+      record {
+        k = b.place.k;
+        is = b.place.is;
+        held = stays s b.place.k b.ls vs js b.rest
+            (subst (Holds b.place.k) b.place.there (now_there b.place.k b.place.n ks));
+      },
       each_has s b.ls vs js b.rest,
     )
 
 -- the key beside a type in a rising list is the one that stands there
-found_first : (k x : TypeAndKey) (xs : List TypeAndKey) (b : Bool) → x ≡ k → nat_eq x.kind k.kind ≡ b → cond b (Some x.key) (key_for k.kind xs) ≡ Some k.key
+found_first : (k x : TypeAndKey) (xs : List TypeAndKey) (b : Bool) → x ≡ k → nat_eq x.kind k.kind ≡ b →
+    cond b (Some x.key) (key_for k.kind xs) ≡ Some k.key
 found_first k x xs true e q = ap (λ (z : TypeAndKey). Some z.key) e
-found_first k x xs false e q = let same : x.kind ≡ k.kind = ap (λ (z : TypeAndKey). z.kind) e in absurd (grind (arith, q, same))
+found_first k x xs false e q = let same : x.kind ≡ k.kind = ap (λ (z : TypeAndKey). z.kind) e in absurd
+    (grind (arith, q, same))
 
 found : (k : TypeAndKey) (xs : List TypeAndKey) → is_rising xs ≡ true → Holds k xs → key_for k.kind xs ≡ Some k.key
 found k [] r h = absurd h
@@ -56,21 +64,26 @@ found k (x ∷ xs) r (inr h) =
     ∙ found k xs (right_true (list_all (λ z. nat_lt x.kind z.kind) xs) (is_rising xs) r) h
 
 -- a test on a pair with a key is the test on its value and that key
-one_value : (t : MatchTest) (p : PairModel) (k : List ℕ) → p.key ≡ Some k → match_pair t p ≡ match_value t (p.value ∷ []) (k ∷ [])
+one_value : (t : MatchTest) (p : PairModel) (k : List ℕ) → p.key ≡ Some k → match_pair t p ≡ match_value t
+    (p.value ∷ []) (k ∷ [])
 one_value test.Unknown p k e = refl
-one_value (test.Kept a) p k e = ap truth_of (ap (λ (o : Option (List ℕ)). is_met_by a.less a.key o) e ∙ sym (or-false (is_met a.less a.key k)))
+one_value (test.Kept a) p k e = ap truth_of (ap (λ (o : Option (List ℕ)). is_met_by a.less a.key o) e
+    ∙ sym (or-false (is_met a.less a.key k)))
 one_value (test.Text r a) p k e = ap truth_of (sym (or-false (is_text_met r a.less a.key p.value)))
 
 -- the pairs of a relative name are those of its spelling
-all_over : {A B : Type 0} (P : A → Type 0) (Q : B → Type 0) (f : A → B) → ((x : A) → P x → Q (f x)) → (xs : List A) → AllByRecursion P xs → AllByRecursion Q (map f xs)
+all_over : {A B : Type 0} (P : A → Type 0) (Q : B → Type 0) (f : A → B) → ((x : A) → P x → Q (f x)) → (xs : List A) →
+    AllByRecursion P xs → AllByRecursion Q (map f xs)
 all_over P Q f g [] h = tt
 all_over P Q f g (x ∷ xs) h = (g x h.0, all_over P Q f g xs h.1)
 
-all_left_by : {A : Type 0} (P : A → Type 0) (b : Bool) (x : A) (xs : List A) → P x → AllByRecursion P xs → AllByRecursion P (cond b (x ∷ xs) xs)
+all_left_by : {A : Type 0} (P : A → Type 0) (b : Bool) (x : A) (xs : List A) → P x → AllByRecursion P xs →
+    AllByRecursion P (cond b (x ∷ xs) xs)
 all_left_by P true x xs p h = (p, h)
 all_left_by P false x xs p h = h
 
-all_left : {A : Type 0} (P : A → Type 0) (p : A → Bool) (xs : List A) → AllByRecursion P xs → AllByRecursion P (filter p xs)
+all_left : {A : Type 0} (P : A → Type 0) (p : A → Bool) (xs : List A) → AllByRecursion P xs →
+    AllByRecursion P (filter p xs)
 all_left P p [] h = tt
 all_left P p (x ∷ xs) h = all_left_by P (p x) x (filter p xs) h.0 (all_left P p xs h.1)
 
@@ -78,40 +91,54 @@ same_map : {A B : Type 0} (f g : A → B) (xs : List A) → AllByRecursion (λ x
 same_map f g [] h = refl
 same_map f g (x ∷ xs) h = ap₂ (λ (y : _) (ys : List _). y ∷ ys) h.0 (same_map f g xs h.1)
 
-at_place : {A : Type 0} (P : A → Type 0) (xs : List A) (i : ℕ) (x : A) → AllByRecursion P xs → slice_get xs i ≡ Some x → P x
+at_place : {A : Type 0} (P : A → Type 0) (xs : List A) (i : ℕ) (x : A) → AllByRecursion P xs → slice_get xs i ≡
+    Some x → P x
 at_place P [] i x h e = absurd (cc)
 at_place P (y ∷ ys) zero x h e = let same : y ≡ x = cc in subst P same h.0
 at_place P (y ∷ ys) (suc i) x h e = at_place P ys i x h.1 e
 
 module _ (s : SchemaModel) (h : How) (a : List ℕ) (laws : (r : Rule) → KeysMean s r) (tell : TextsTell) where
-  keyed_pair : (v : TypeAndValue) (k : TypeAndKey) (p : PairModel) → IsKeyed s v k → p.kind ≡ v.kind → p.value ≡ v.value → p.key ≡ Some k.key → match_on_pair s h a p ≡ match_on_one_value s h a p
+  keyed_pair : (v : TypeAndValue) (k : TypeAndKey) (p : PairModel) → IsKeyed s v k → p.kind ≡ v.kind →
+      p.value ≡ v.value → p.key ≡ Some k.key → match_on_pair s h a p ≡ match_on_one_value s h a p
   keyed_pair v k p i t x e =
-      let key : map (key_at s i.rule) (p.value ∷ []) ≡ map Some (k.key ∷ []) = ap (λ (o : Option (List ℕ)). o ∷ []) (ap (key_at s i.rule) x ∙ i.key) in
+      let key : map (key_at s i.rule) (p.value ∷ []) ≡ map Some (k.key ∷ []) = ap (λ (o : Option (List ℕ)). o ∷ [])
+      (ap (key_at s i.rule) x ∙ i.key) in
       let rule : equality_of s p.kind ≡ Some i.rule = ap (equality_of s) t ∙ i.is_rule in
-      let kept : AreKeysOf s p.kind (p.value ∷ []) (k.key ∷ []) = subst (λ (o : Option Rule). AreKeysBy s o (p.value ∷ []) (k.key ∷ [])) (sym rule) key in
-      sym (on_pair s h a laws tell p) ∙ one_value (match_for s h a p.kind) p k.key e ∙ on_values s h a laws tell p.kind (p.value ∷ []) (k.key ∷ []) kept
+      let kept : AreKeysOf s p.kind (p.value ∷ []) (k.key ∷ []) =
+      subst (λ (o : Option Rule). AreKeysBy s o (p.value ∷ []) (k.key ∷ [])) (sym rule) key in
+      sym (on_pair s h a laws tell p) ∙ one_value (match_for s h a p.kind) p k.key e ∙ on_values s h a laws tell
+      p.kind (p.value ∷ []) (k.key ∷ []) kept
 
-  pair_is : (js : List TypeAndKey) → is_rising js ≡ true → (v : TypeAndValue) → HasKey s js v → match_on_pair s h a (pair_in js v) ≡ match_on_one_value s h a (pair_in js v)
+  pair_is : (js : List TypeAndKey) → is_rising js ≡ true → (v : TypeAndValue) → HasKey s js v →
+      match_on_pair s h a (pair_in js v) ≡ match_on_one_value s h a (pair_in js v)
   pair_is js rises v q =
       let i : IsKeyed s v q.k = key_is s v q.k q.is in
-      keyed_pair v q.k (pair_in js v) i refl refl (ap (λ (t : ℕ). key_for t js) (sym i.kind) ∙ found q.k js rises q.held)
+      keyed_pair v q.k (pair_in js v) i refl refl (ap (λ (t : ℕ). key_for t js) (sym i.kind)
+      ∙ found q.k js rises q.held)
 
-  of_rdn : (r : RdnModel) → IsKeyedRdn s r → AllByRecursion (λ p. match_on_pair s h a p ≡ match_on_one_value s h a p) (pairs_in r)
+  of_rdn : (r : RdnModel) → IsKeyedRdn s r → AllByRecursion (λ p. match_on_pair s h a p ≡ match_on_one_value s h a p)
+      (pairs_in r)
   of_rdn r q =
-      all_over (HasKey s r.keys) (λ p. match_on_pair s h a p ≡ match_on_one_value s h a p) (pair_in r.keys) (pair_is r.keys q.rising) r.spelling (each_has s [] r.spelling r.keys q.keys)
+      all_over (HasKey s r.keys) (λ p. match_on_pair s h a p ≡ match_on_one_value s h a p) (pair_in r.keys)
+      (pair_is r.keys q.rising) r.spelling (each_has s [] r.spelling r.keys q.keys)
 
   keyed_rdn : (r : RdnModel) → IsRead s r → IsKeyedRdn s r
-  keyed_rdn r q = at_place (IsKeyedRdn s) q.name q.place r (all_read s ((names_of_texts s q.text q.name).0 q.spells)) q.there
+  keyed_rdn r q = at_place (IsKeyedRdn s) q.name q.place r (all_read s ((names_of_texts s q.text q.name).0 q.spells))
+      q.there
 
-  of_name : (n : List RdnModel) → AreRead s n → AllByRecursion (λ p. match_on_pair s h a p ≡ match_on_one_value s h a p) (pairs_of n)
+  of_name : (n : List RdnModel) → AreRead s n → AllByRecursion (λ p. match_on_pair s h a p ≡ match_on_one_value s h a
+      p) (pairs_of n)
   of_name [] q = tt
-  of_name (r ∷ rs) q = all_append (λ p. match_on_pair s h a p ≡ match_on_one_value s h a p) (pairs_in r) (pairs_of rs) (of_rdn r (keyed_rdn r q.0)) (of_name rs q.1)
+  of_name (r ∷ rs) q = all_append (λ p. match_on_pair s h a p ≡ match_on_one_value s h a p) (pairs_in r) (pairs_of rs)
+      (of_rdn r (keyed_rdn r q.0)) (of_name rs q.1)
 
 pub pairs_are_attributes : ((s : SchemaModel) (r : Rule) → KeysMean s r) → TextsTell → PairsAreAttributes
-pairs_are_attributes laws tell s h a n q = same_map (match_on_pair s h a) (match_on_one_value s h a) (pairs_of n) (of_name s h a (laws s) tell n q)
+pairs_are_attributes laws tell s h a n q = same_map (match_on_pair s h a) (match_on_one_value s h a) (pairs_of n)
+    (of_name s h a (laws s) tell n q)
 
 pub names_are_attributes : ((s : SchemaModel) (r : Rule) → KeysMean s r) → TextsTell → NamesAreAttributes
 names_are_attributes laws tell s h t a n q =
     ap disjunction
     (same_map (match_on_pair s h a) (match_on_one_value s h a) (filter (λ p. is_looked_at s h t p.kind) (pairs_of n))
-    (all_left (λ p. match_on_pair s h a p ≡ match_on_one_value s h a p) (λ p. is_looked_at s h t p.kind) (pairs_of n) (of_name s h a (laws s) tell n q)))
+    (all_left (λ p. match_on_pair s h a p ≡ match_on_one_value s h a p) (λ p. is_looked_at s h t p.kind) (pairs_of n)
+    (of_name s h a (laws s) tell n q)))

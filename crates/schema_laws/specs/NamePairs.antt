@@ -1,4 +1,5 @@
--- Items on the pairs of names that were read: RFC 4511 4.5.1.7.7. Updates, names and a schema are looked at; a pair's key is not spoken of here, though
+-- Items on the pairs of names that were read: RFC 4511 4.5.1.7.7. Updates, names and a schema are looked at; a pair's
+-- key is not spoken of here, though
 -- the item on a pair is told by it.
 use Rattle.std.specs.Prelude.{ℕ, List, [], ◌∷◌, map, filter, Option, Some, slice_get, ◌≡◌}
 use Rattle.ldap_match.specs.ldap_schema.Schema.{SchemaModel}
@@ -34,19 +35,23 @@ NamesOfEntriesAreRead s (e ∷ es) = AreRead s e.name × NamesOfEntriesAreRead s
 
 -- Whatever the updates were, each name in their directory is made of relative names that were read.
 abbrev pub EntriesHaveReadNames : Type 0
-EntriesHaveReadNames = (s : SchemaModel) (suffix : List RdnModel) (ops : List OpValue) → NamesOfEntriesAreRead s (directory_of s suffix ops).entries
+EntriesHaveReadNames = (s : SchemaModel) (suffix : List RdnModel) (ops : List OpValue) →
+    NamesOfEntriesAreRead s (directory_of s suffix ops).entries
 
 -- the item on an attribute of a pair's type that has the pair's value alone
 abbrev pub match_on_one_value : SchemaModel → How → List ℕ → PairModel → Truth
 match_on_one_value s h a p = match_on_values s h a p.kind (p.value ∷ [])
 
--- The item on each pair of such a name is that on an attribute of the pair's type with the pair's value alone, by what values mean.
+-- The item on each pair of such a name is that on an attribute of the pair's type with the pair's value alone, by what
+-- values mean.
 abbrev pub PairsAreAttributes : Type 0
 PairsAreAttributes =
-    (s : SchemaModel) (h : How) (a : List ℕ) (n : List RdnModel) → AreRead s n → map (match_on_pair s h a) (pairs_of n) ≡ map (match_on_one_value s h a) (pairs_of n)
+    (s : SchemaModel) (h : How) (a : List ℕ) (n : List RdnModel) → AreRead s n → map (match_on_pair s h a)
+    (pairs_of n) ≡ map (match_on_one_value s h a) (pairs_of n)
 
 -- So the item on such a name is the `or` of these over the pairs that it looks at.
 abbrev pub NamesAreAttributes : Type 0
 NamesAreAttributes =
     (s : SchemaModel) (h : How) (t : Option ℕ) (a : List ℕ) (n : List RdnModel) → AreRead s n →
-    match_on_name s h t a n ≡ disjunction (map (match_on_one_value s h a) (filter (λ p. is_looked_at s h t p.kind) (pairs_of n)))
+    match_on_name s h t a n ≡ disjunction (map (match_on_one_value s h a) (filter (λ p. is_looked_at s h t p.kind)
+    (pairs_of n)))

@@ -9,7 +9,8 @@ use Rattle.ldap_dn.specs.Names.{TypeAndValue, RdnModel}
 use Rattle.ldap_dn.specs.Texts.{keys_from, name_of_text}
 use Rattle.ldap_dn.specs.Printed.{type_name, printed_name}
 
--- the octets of a type's name and of an object identifier: letters, digits, hyphen and full stop (RFC 4512 1.4, keystring and
+-- the octets of a type's name and of an object identifier: letters, digits, hyphen and full stop (RFC 4512 1.4,
+-- keystring and
 -- numericoid)
 abbrev pub is_name_octet : ℕ → Bool
 is_name_octet c = is_key_octet c || nat_eq c 46
@@ -28,8 +29,11 @@ pub record IsRdnOf (s : SchemaModel) (r : RdnModel) : Type 0 where
 
 -- What is printed of a name is read as the name, its spelling too.
 abbrev pub PrintedIsRead : Type 0
-PrintedIsRead = (s : SchemaModel) (name : List RdnModel) → All (IsRdnOf s) name → name_of_text s (printed_name s name) ≡ Some name
+PrintedIsRead = (s : SchemaModel) (name : List RdnModel) → All (IsRdnOf s) name →
+    name_of_text s (printed_name s name) ≡ Some name
 
 -- What is printed of a name that was read by a schema that was read is read as that name.
 abbrev pub ReadNamesAreReadAgain : Type 0
-ReadNamesAreReadAgain = (of_schema : List ℕ) (s : SchemaModel) → schema_of_text of_schema ≡ Ok s → (text : List ℕ) (name : List RdnModel) → name_of_text s text ≡ Some name → name_of_text s (printed_name s name) ≡ Some name
+ReadNamesAreReadAgain = (of_schema : List ℕ) (s : SchemaModel) → schema_of_text of_schema ≡ Ok s →
+    (text : List ℕ) (name : List RdnModel) → name_of_text s text ≡ Some name → name_of_text s (printed_name s name) ≡
+    Some name

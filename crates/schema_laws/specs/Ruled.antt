@@ -21,7 +21,8 @@ abbrev pub IsNoneOr : Rule → Option Rule → Type 0
 IsNoneOr r None = Unit {0}
 IsNoneOr r (Some o) = o ≡ r
 
--- The rules of a type, own or inherited (RFC 4512 2.5.1): it has an EQUALITY rule, and an ORDERING and a SUBSTR rule, if any, of the same
+-- The rules of a type, own or inherited (RFC 4512 2.5.1): it has an EQUALITY rule, and an ORDERING and a SUBSTR rule,
+-- if any, of the same
 -- family on the same syntax; they are the ones in effect.
 pub record IsOfOneFamily (t : TypeModel) : Type 0 where
   pub rule : Rule
@@ -32,4 +33,5 @@ pub record IsOfOneFamily (t : TypeModel) : Type 0 where
 
 -- Of each schema that is read from a text, each type's rules are of one family.
 abbrev pub ReadTypesAreOfOneFamily : Type 0
-ReadTypesAreOfOneFamily = (text : List ℕ) (s : SchemaModel) → schema_of_text text ≡ Ok s → AllByRecursion IsOfOneFamily s.types
+ReadTypesAreOfOneFamily = (text : List ℕ) (s : SchemaModel) → schema_of_text text ≡ Ok s →
+    AllByRecursion IsOfOneFamily s.types

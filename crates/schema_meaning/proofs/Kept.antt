@@ -15,7 +15,8 @@ some_kept : (o : Option ℕ) (m : ℕ) (b : Bool) (n : ℕ) → o ≡ Some m →
 some_kept None m b n h = cc
 some_kept (Some k) m b n h = refl
 
-stays_by : (f : List ℕ → Option ℕ) (k q : List ℕ) (m n : ℕ) (b : Bool) → bytes_eq q k ≡ b → Some m ≡ f k → f q ≡ kept_or (f q) b n
+stays_by : (f : List ℕ → Option ℕ) (k q : List ℕ) (m n : ℕ) (b : Bool) → bytes_eq q k ≡ b → Some m ≡ f k →
+    f q ≡ kept_or (f q) b n
 stays_by f k q m n true e h = some_kept (f q) m true n (ap f ((bytes_eq-Decides q k).0 e) ∙ sym h)
 stays_by f k q m n false e h = sym (kept_not (f q) n)
 
@@ -27,11 +28,13 @@ none_kept : (o : Option ℕ) (n : ℕ) → None ≡ o → Some n ≡ kept_or o t
 none_kept None n h = refl
 none_kept (Some k) n h = cc
 
-comes_by : (f : List ℕ → Option ℕ) (k q : List ℕ) (n : ℕ) (b : Bool) → bytes_eq q k ≡ b → None ≡ f k → cond b (Some n) (f q) ≡ kept_or (f q) b n
+comes_by : (f : List ℕ → Option ℕ) (k q : List ℕ) (n : ℕ) (b : Bool) → bytes_eq q k ≡ b → None ≡ f k →
+    cond b (Some n) (f q) ≡ kept_or (f q) b n
 comes_by f k q n true e h = none_kept (f q) n (h ∙ sym (ap f ((bytes_eq-Decides q k).0 e)))
 comes_by f k q n false e h = sym (kept_not (f q) n)
 
-pub comes : (f : List ℕ → Option ℕ) (k q : List ℕ) (n : ℕ) → None ≡ f k → cond (bytes_eq q k) (Some n) (f q) ≡ kept_or (f q) (bytes_eq q k) n
+pub comes : (f : List ℕ → Option ℕ) (k q : List ℕ) (n : ℕ) → None ≡ f k → cond (bytes_eq q k) (Some n) (f q) ≡
+    kept_or (f q) (bytes_eq q k) n
 comes f k q n h = comes_by f k q n (bytes_eq q k) refl h
 
 pub found_either : (ds : List DescriptionModel) (by_name by_oid : List ℕ → Option ℕ)
@@ -41,4 +44,5 @@ pub found_either : (ds : List DescriptionModel) (by_name by_oid : List ℕ → O
 found_either ds by_name by_oid f g w =
     ap (λ z. lower z (by_oid w)) (f (map to_ascii_lowercase w))
     ∙ ap (lower _) (g w)
-    ∙ sym (first_of_either (λ (d : DescriptionModel). list_any (is_same_word w) (names_of d)) (λ (d : DescriptionModel). bytes_eq w d.oid) 0 ds)
+    ∙ sym (first_of_either (λ (d : DescriptionModel). list_any (is_same_word w) (names_of d))
+    (λ (d : DescriptionModel). bytes_eq w d.oid) 0 ds)

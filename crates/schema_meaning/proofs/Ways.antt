@@ -12,7 +12,8 @@ abbrev pub way_in : Option Way → Way
 way_in None = IsLost
 way_in (Some w) = w
 
-of_rest : (types rest : List DescriptionModel) (t : ℕ) → way_in (slice_get (map (λ d. way_by types (superior_text d)) rest) t) ≡ way_of types (slice_get rest t)
+of_rest : (types rest : List DescriptionModel) (t : ℕ) →
+    way_in (slice_get (map (λ d. way_by types (superior_text d)) rest) t) ≡ way_of types (slice_get rest t)
 of_rest types [] t = refl
 of_rest types (d ∷ ds) zero = refl
 of_rest types (d ∷ ds) (suc t) = of_rest types ds t

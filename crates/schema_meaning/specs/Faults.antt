@@ -49,9 +49,11 @@ are_known ds ws = list_all (λ w. is_some (find ds w)) ws
 -- all that a description of a class names is known
 abbrev pub names_known_class : SchemaTextModel → DescriptionModel → Bool
 names_known_class s d =
-    are_known s.classes (superior_texts d) && are_known s.types (texts_at 12 d.fields) && are_known s.types (texts_at 13 d.fields)
+    are_known s.classes (superior_texts d) && are_known s.types (texts_at 12 d.fields)
+    && are_known s.types (texts_at 13 d.fields)
 
 -- The first line that names a rule, a syntax, a type or a class that is not known.
 abbrev pub unknown_line : SchemaTextModel → Option ℕ
 unknown_line s =
-    earlier (first_of_all (λ d. not (names_known_type s.types d)) s.types) (first_of_all (λ d. not (names_known_class s d)) s.classes)
+    earlier (first_of_all (λ d. not (names_known_type s.types d)) s.types)
+    (first_of_all (λ d. not (names_known_class s d)) s.classes)

@@ -27,7 +27,8 @@ abbrev pub way_of : List DescriptionModel → Option DescriptionModel → Way
 way_of types None = IsLost
 way_of types (Some d) = way_by types (superior_text d)
 
--- where the SUP of a type leads: nowhere, where it has none; to no type, where none is called so; or to the type of a number
+-- where the SUP of a type leads: nowhere, where it has none; to no type, where none is called so; or to the type of a
+-- number
 abbrev pub way_from : List DescriptionModel → ℕ → Way
 way_from types t = way_of types (slice_get types t)
 
@@ -90,7 +91,8 @@ abbrev pub is_of_family : Family → Option Family → Bool
 is_of_family f None = true
 is_of_family f (Some g) = nat_eq (family_number f) (family_number g)
 
--- whether a type with this EQUALITY keeps a superior's other rules: it has none of its own, or one of the superior's family
+-- whether a type with this EQUALITY keeps a superior's other rules: it has none of its own, or one of the superior's
+-- family
 abbrev pub agree : Option Family → Option Family → Bool
 agree None o = true
 agree (Some f) o = is_of_family f o
@@ -100,7 +102,8 @@ abbrev pub kept : Bool → Option Family → Option Family
 kept true f = f
 kept false f = None
 
--- what is in effect for a type under one with these rules: its own, and else the other's; the ordering and the substrings rule of
+-- what is in effect for a type under one with these rules: its own, and else the other's; the ordering and the
+-- substrings rule of
 -- the other are left out where the type has an EQUALITY of another family (RFC 4512 2.5.1)
 abbrev pub inherited : Effect → Effect → Effect
 inherited above own =
@@ -135,7 +138,8 @@ abbrev pub effect_along : List DescriptionModel → ℕ → Option (List ℕ) �
 effect_along types t None = own_at types t
 effect_along types t (Some chain) = effect_down types nothing (reverse chain)
 
--- The rules and the syntax in effect for a type: down its chain of SUPs, and its own where the chain does not lead to an end.
+-- The rules and the syntax in effect for a type: down its chain of SUPs, and its own where the chain does not lead to
+-- an end.
 abbrev pub effect_of : List DescriptionModel → ℕ → Effect
 effect_of types t = effect_along types t (lineage types t)
 
@@ -157,7 +161,8 @@ abbrev pub is_not_used_on : Option Family → Syntax → Bool
 is_not_used_on None s = false
 is_not_used_on (Some f) s = not (is_used_on f s)
 
--- whether there is no syntax, or one that the family's rules aren't used on; an unknown one is refused as an unknown name
+-- whether there is no syntax, or one that the family's rules aren't used on; an unknown one is refused as an unknown
+-- name
 abbrev pub lacks : Option Family → Given → Bool
 lacks f Missing = true
 lacks f Unknown = false

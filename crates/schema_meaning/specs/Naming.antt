@@ -5,7 +5,8 @@ use Rattle.std.specs.Str.{bytes_eq}
 use Rattle.schema_text.specs.Words.{is_same_word}
 use Rattle.schema_text.specs.Descriptions.{DescriptionModel, texts_at, first_text_at}
 
--- the places of fields in the grammar's order: NAME 1, SUP 4, EQUALITY 5, ORDERING 6, SUBSTR 7, SYNTAX 8, MUST 12, MAY 13
+-- the places of fields in the grammar's order: NAME 1, SUP 4, EQUALITY 5, ORDERING 6, SUBSTR 7, SYNTAX 8, MUST 12, MAY
+-- 13
 abbrev pub names_of : DescriptionModel → List (List ℕ)
 names_of d = texts_at 1 d.fields
 

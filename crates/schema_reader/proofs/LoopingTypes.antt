@@ -43,7 +43,8 @@ up_via : (ts : List TypeModel) (a b t u : ℕ) (o : Option ℕ) → up ts a t �
 up_via ts a b t u o f g = up_add ts a b t ∙ ap (λ (p : Option ℕ). then_up p (up ts b)) f ∙ g
 
 -- steps of a list
-step_mapped : (os : List (Option ℕ)) (f : ℕ → Option ℕ) (t : ℕ) → step_at (map (λ o. then_up o f) os) t ≡ then_up (step_at os t) f
+step_mapped : (os : List (Option ℕ)) (f : ℕ → Option ℕ) (t : ℕ) → step_at (map (λ o. then_up o f) os) t ≡
+    then_up (step_at os t) f
 step_mapped [] f t = refl
 step_mapped (o ∷ os) f zero = refl
 step_mapped (o ∷ os) f (suc t) = step_mapped os f t
@@ -55,7 +56,8 @@ length_mapped f (x ∷ xs) = ap suc (length_mapped f xs)
 up_twice : (ts : List TypeModel) (m : ℕ) (steps : List (Option ℕ)) → IsUp ts m steps → IsUp ts (m + m) (doubled steps)
 up_twice ts m steps h = record {
   count = length_mapped (λ o. then_up o (step_at steps)) steps ∙ h.count;
-  is = λ t. step_mapped steps (step_at steps) t ∙ ap (λ (p : Option ℕ). then_up p (step_at steps)) (h.is t) ∙ then_same (up ts m t) (step_at steps) (up ts m) h.is ∙ sym (up_add ts m m t);
+  is = λ t. step_mapped steps (step_at steps) t ∙ ap (λ (p : Option ℕ). then_up p (step_at steps)) (h.is t)
+      ∙ then_same (up ts m t) (step_at steps) (up ts m) h.is ∙ sym (up_add ts m m t);
 }
 
 half : (m n left : ℕ) → n < m * (left + 1) → n < (m + m) * (left / 2 + 1)
@@ -64,22 +66,37 @@ half m n left h = omega (arith, mul-le-mul_left m (half_of left), h)
     half_of : (k : ℕ) → k + 1 ≤ 2 * (k / 2 + 1)
     half_of k = omega arith
 
-pub twice_up : (ts : List TypeModel) (left : ℕ) (steps new : List (Option ℕ)) → new ≡ doubled steps → IsUpBut ts left steps → IsUpBut ts (left / 2) new
-twice_up ts left steps new e h = (h.0 + h.0, half h.0 (length ts) left h.1, subst (IsUp ts (h.0 + h.0)) (sym e) (up_twice ts h.0 steps h.2))
+pub twice_up : (ts : List TypeModel) (left : ℕ) (steps new : List (Option ℕ)) → new ≡ doubled steps →
+    IsUpBut ts left steps → IsUpBut ts (left / 2) new
+twice_up ts left steps new e h = (
+  h.0 + h.0,
+  half h.0 (length ts) left h.1,
+  subst (IsUp ts (h.0 + h.0)) (sym
+      e) (up_twice ts h.0 steps h.2),
+)
 
 -- a type on a loop comes back after some SUPs
 abbrev pub Back : List TypeModel → ℕ → ℕ → ℕ → Type 0
 Back ts k a b = (j : ℕ) × (j < k) × (up ts (suc j) a ≡ Some b)
 
 back_first : (ts : List TypeModel) (k a b u : ℕ) → superior_of ts a ≡ Some u → nat_eq u b ≡ true → Back ts (suc k) a b
-back_first ts k a b u e h = (0, omega arith, ap (λ (o : Option ℕ). then_up o (λ x. Some x)) e ∙ ap Some (same_number u b h))
+back_first ts k a b u e h = (
+  0,
+  omega arith,
+  ap (λ (o : Option ℕ). then_up o (λ x. Some x)) e ∙ ap Some (same_number u
+      b h),
+)
 
 back_later : (ts : List TypeModel) (k a b u : ℕ) → superior_of ts a ≡ Some u → Back ts k u b → Back ts (suc k) a b
-back_later ts k a b u e h = (suc h.0, omega (arith, h.1), ap (λ (o : Option ℕ). then_up o (λ x. up ts (suc h.0) x)) e ∙ h.2)
+back_later ts k a b u e h =
+    (suc h.0, omega (arith, h.1), ap (λ (o : Option ℕ). then_up o (λ x. up ts (suc h.0) x)) e ∙ h.2)
 
-back_by : (ts : List TypeModel) (k a b : ℕ) (o : Option ℕ) → superior_of ts a ≡ o → ((u : ℕ) → list_any (λ x. nat_eq x b) (superiors k ts u) ≡ true → Back ts k u b) → list_any (λ x. nat_eq x b) (led o (λ u. superiors k ts u)) ≡ true → Back ts (suc k) a b
+back_by : (ts : List TypeModel) (k a b : ℕ) (o : Option ℕ) → superior_of ts a ≡ o →
+    ((u : ℕ) → list_any (λ x. nat_eq x b) (superiors k ts u) ≡ true → Back ts k u b) → list_any (λ x. nat_eq x b)
+    (led o (λ u. superiors k ts u)) ≡ true → Back ts (suc k) a b
 back_by ts k a b None e f h = absurd (false_true h)
-back_by ts k a b (Some u) e f h = or_cases (nat_eq u b) (list_any (λ x. nat_eq x b) (superiors k ts u)) h (back_first ts k a b u e) (λ g. back_later ts k a b u e (f u g))
+back_by ts k a b (Some u) e f h = or_cases (nat_eq u b) (list_any (λ x. nat_eq x b) (superiors k ts u)) h
+    (back_first ts k a b u e) (λ g. back_later ts k a b u e (f u g))
 
 back : (ts : List TypeModel) (k a b : ℕ) → list_any (λ x. nat_eq x b) (superiors k ts a) ≡ true → Back ts k a b
 back ts zero a b h = absurd (false_true h)
@@ -93,12 +110,15 @@ or_one : (a b : Bool) → a ≡ true → (a || b) ≡ true
 or_one true b h = refl
 or_one false b h = absurd (false_true h)
 
-among_by : (ts : List TypeModel) (k b j : ℕ) (o : Option ℕ) → ((u : ℕ) (i : ℕ) → i < k → up ts (suc i) u ≡ Some b → list_any (λ x. nat_eq x b) (superiors k ts u) ≡ true) → j < suc k → then_up o (λ u. up ts j u) ≡ Some b → list_any (λ x. nat_eq x b) (led o (λ u. superiors k ts u)) ≡ true
+among_by : (ts : List TypeModel) (k b j : ℕ) (o : Option ℕ) → ((u : ℕ) (i : ℕ) → i < k → up ts (suc i) u ≡ Some b →
+    list_any (λ x. nat_eq x b) (superiors k ts u) ≡ true) → j < suc k → then_up o (λ u. up ts j u) ≡ Some b →
+    list_any (λ x. nat_eq x b) (led o (λ u. superiors k ts u)) ≡ true
 among_by ts k b j None f lt h = absurd (none_some h)
 among_by ts k b zero (Some u) f lt h = or_one (nat_eq u b) _ (eq_itself u b (some_same h))
 among_by ts k b (suc i) (Some u) f lt h = or_two (nat_eq u b) _ (f u i (omega (arith, lt)) h)
 
-among : (ts : List TypeModel) (k a b j : ℕ) → j < k → up ts (suc j) a ≡ Some b → list_any (λ x. nat_eq x b) (superiors k ts a) ≡ true
+among : (ts : List TypeModel) (k a b j : ℕ) → j < k → up ts (suc j) a ≡ Some b → list_any (λ x. nat_eq x b)
+    (superiors k ts a) ≡ true
 among ts zero a b j lt h = absurd (omega (arith, lt))
 among ts (suc k) a b j lt h = among_by ts k b j (superior_of ts a) (λ u i. among ts k u b i) lt h
 
@@ -106,14 +126,17 @@ among ts (suc k) a b j lt h = among_by ts k b j (superior_of ts a) (λ u i. amon
 goes_up : (ts : List TypeModel) (a u : ℕ) → superior_of ts a ≡ Some u → up ts 1 a ≡ Some u
 goes_up ts a u e = sym (up_first ts a) ∙ e
 
-next_back : (ts : List TypeModel) (a u j : ℕ) → superior_of ts a ≡ Some u → up ts (suc j) a ≡ Some a → up ts (suc j) u ≡ Some u
+next_back : (ts : List TypeModel) (a u j : ℕ) → superior_of ts a ≡ Some u → up ts (suc j) a ≡ Some a →
+    up ts (suc j) u ≡ Some u
 next_back ts a u j e h =
     let two : up ts (suc j + 1) a ≡ Some u = up_via ts (suc j) 1 a a (Some u) h (goes_up ts a u e) in
-    let one : up ts (1 + suc j) a ≡ up ts (suc j) u = up_via ts 1 (suc j) a u (up ts (suc j) u) (goes_up ts a u e) refl in
+    let one : up ts (1 + suc j) a ≡ up ts (suc j) u = up_via ts 1 (suc j) a u (up ts (suc j) u) (goes_up ts a u e)
+    refl in
     let same : 1 + suc j ≡ suc j + 1 = omega arith in
     sym one ∙ ap (λ (n : ℕ). up ts n a) same ∙ two
 
-next_loops : (ts : List TypeModel) (a u : ℕ) → superior_of ts a ≡ Some u → is_type_looping ts a ≡ true → is_type_looping ts u ≡ true
+next_loops : (ts : List TypeModel) (a u : ℕ) → superior_of ts a ≡ Some u → is_type_looping ts a ≡ true →
+    is_type_looping ts u ≡ true
 next_loops ts a u e h =
     let b : Back ts (length ts) a a = back ts (length ts) a a h in
     among ts (length ts) u u b.0 b.1 (next_back ts a u b.0 e b.2)
@@ -127,49 +150,62 @@ true_false : {P : Type 0} (b : Bool) → b ≡ true → b ≡ false → P
 true_false true h g = absurd (false_true (sym g))
 true_false false h g = absurd (false_true h)
 
-off_one : (ts : List TypeModel) (a u : ℕ) → superior_of ts a ≡ Some u → is_type_looping ts u ≡ false → is_type_looping ts a ≡ false
-off_one ts a u e off = off_by (is_type_looping ts a) (λ h. true_false (is_type_looping ts u) (next_loops ts a u e h) off)
+off_one : (ts : List TypeModel) (a u : ℕ) → superior_of ts a ≡ Some u → is_type_looping ts u ≡ false →
+    is_type_looping ts a ≡ false
+off_one ts a u e off = off_by (is_type_looping ts a) (λ h. true_false (is_type_looping ts u) (next_loops ts a u e h)
+    off)
 
-off_up_by : (ts : List TypeModel) (k t a : ℕ) (o : Option ℕ) → superior_of ts a ≡ o → ((u : ℕ) → up ts k u ≡ Some t → is_type_looping ts u ≡ false) → then_up o (λ u. up ts k u) ≡ Some t → is_type_looping ts a ≡ false
+off_up_by : (ts : List TypeModel) (k t a : ℕ) (o : Option ℕ) → superior_of ts a ≡ o → ((u : ℕ) → up ts k u ≡ Some t →
+    is_type_looping ts u ≡ false) → then_up o (λ u. up ts k u) ≡ Some t → is_type_looping ts a ≡ false
 off_up_by ts k t a None e f h = absurd (none_some h)
 off_up_by ts k t a (Some u) e f h = off_one ts a u e (f u h)
 
-off_up : (ts : List TypeModel) (k t a : ℕ) → is_type_looping ts t ≡ false → up ts k a ≡ Some t → is_type_looping ts a ≡ false
+off_up : (ts : List TypeModel) (k t a : ℕ) → is_type_looping ts t ≡ false → up ts k a ≡ Some t →
+    is_type_looping ts a ≡ false
 off_up ts zero t a off h = subst (λ (x : ℕ). is_type_looping ts x ≡ false) (sym (some_same h)) off
 off_up ts (suc k) t a off h = off_up_by ts k t a (superior_of ts a) refl (λ u. off_up ts k t u off) h
 
 -- the types on the way to it are distinct
-distinct_by : (ts : List TypeModel) (k j t a : ℕ) (o : Option ℕ) → list_any (λ u. nat_eq u a) (led o (λ u. superiors k ts u)) ≡ false → then_up o (λ u. up ts j u) ≡ Some t → ((u : ℕ) → up ts j u ≡ Some t → IsDistinct nat_eq (u ∷ superiors k ts u)) → IsDistinct nat_eq (a ∷ led o (λ u. superiors k ts u))
+distinct_by : (ts : List TypeModel) (k j t a : ℕ) (o : Option ℕ) → list_any (λ u. nat_eq u a)
+    (led o (λ u. superiors k ts u)) ≡ false → then_up o (λ u. up ts j u) ≡ Some t → ((u : ℕ) → up ts j u ≡ Some t →
+    IsDistinct nat_eq (u ∷ superiors k ts u)) → IsDistinct nat_eq (a ∷ led o (λ u. superiors k ts u))
 distinct_by ts k j t a None n h f = absurd (none_some h)
-distinct_by ts k j t a (Some u) n h f = IsDistinct-cons nat_eq a (u ∷ superiors k ts u) (apart a (u ∷ superiors k ts u) n) (f u h)
+distinct_by ts k j t a (Some u) n h f = IsDistinct-cons nat_eq a (u ∷ superiors k ts u)
+    (apart a (u ∷ superiors k ts u) n) (f u h)
 
-distinct : (ts : List TypeModel) (k j t a : ℕ) → k ≤ length ts → k ≤ j → is_type_looping ts t ≡ false → up ts j a ≡ Some t → IsDistinct nat_eq (a ∷ superiors k ts a)
+distinct : (ts : List TypeModel) (k j t a : ℕ) → k ≤ length ts → k ≤ j → is_type_looping ts t ≡ false →
+    up ts j a ≡ Some t → IsDistinct nat_eq (a ∷ superiors k ts a)
 distinct ts zero j t a low le off h = one_distinct a
 distinct ts (suc k) zero t a low le off h = absurd (omega (arith, le))
 distinct ts (suc k) (suc j) t a low le off h =
-    distinct_by ts k j t a (superior_of ts a) (begun ts (λ x. nat_eq x a) (suc k) (length ts) a low (off_up ts (suc j) t a off h)) h
+    distinct_by ts k j t a (superior_of ts a) (begun ts (λ x. nat_eq x a) (suc k) (length ts) a low
+    (off_up ts (suc j) t a off h)) h
     (λ u g. distinct ts k j t u (omega (arith, low)) (omega (arith, le)) off g)
 
 -- and there are as many
-goes_by : (ts : List TypeModel) (k j t : ℕ) (o : Option ℕ) → then_up o (λ u. up ts j u) ≡ Some t → ((u : ℕ) → up ts j u ≡ Some t → ends_within k ts u ≡ false) → if_led o (λ u. ends_within k ts u) ≡ false
+goes_by : (ts : List TypeModel) (k j t : ℕ) (o : Option ℕ) → then_up o (λ u. up ts j u) ≡ Some t →
+    ((u : ℕ) → up ts j u ≡ Some t → ends_within k ts u ≡ false) → if_led o (λ u. ends_within k ts u) ≡ false
 goes_by ts k j t None h f = absurd (none_some h)
 goes_by ts k j t (Some u) h f = f u h
 
-goes_one : (ts : List TypeModel) (j t : ℕ) (o : Option ℕ) → then_up o (λ u. up ts j u) ≡ Some t → if_led o (λ u. false) ≡ false
+goes_one : (ts : List TypeModel) (j t : ℕ) (o : Option ℕ) → then_up o (λ u. up ts j u) ≡ Some t →
+    if_led o (λ u. false) ≡ false
 goes_one ts j t None h = absurd (none_some h)
 goes_one ts j t (Some u) h = refl
 
 goes_on : (ts : List TypeModel) (k j t a : ℕ) → k < j → up ts j a ≡ Some t → ends_within k ts a ≡ false
 goes_on ts k zero t a lt h = absurd (omega (arith, lt))
 goes_on ts zero (suc j) t a lt h = goes_one ts j t (superior_of ts a) h
-goes_on ts (suc k) (suc j) t a lt h = goes_by ts k j t (superior_of ts a) h (λ u. goes_on ts k j t u (omega (arith, lt)))
+goes_on ts (suc k) (suc j) t a lt h = goes_by ts k j t (superior_of ts a) h
+    (λ u. goes_on ts k j t u (omega (arith, lt)))
 
 too_many : (ts : List TypeModel) (m t a : ℕ) → length ts < m → is_type_looping ts t ≡ false → up ts m a ≡ Some t → ⊥
 too_many ts m t a lt off h =
     let g : ends_within (length ts) ts a ≡ false = goes_on ts (length ts) m t a lt h in
     let l : length (superiors (length ts) ts a) ≡ length ts = len ts (length ts) a g in
     let d : length (a ∷ superiors (length ts) ts a) ≤ length ts =
-    length-le_from_distinct_below (a ∷ superiors (length ts) ts a) (length ts) (distinct ts (length ts) m t a (omega arith) (omega (arith, lt)) off h) (below ts (length ts) a g) in
+    length-le_from_distinct_below (a ∷ superiors (length ts) ts a) (length ts) (distinct ts (length ts) m t a
+    (omega arith) (omega (arith, lt)) off h) (below ts (length ts) a g) in
     omega (arith, l, d)
 
 on_by : (b : Bool) → (b ≡ false → ⊥) → b ≡ true
@@ -186,7 +222,8 @@ around ts p t (suc k) h =
     let e : suc k * p ≡ p + k * p = omega arith in
     ap (λ (n : ℕ). up ts n t) e ∙ up_via ts p (k * p) t t (Some t) h (around ts p t k h)
 
-some_from : (ts : List TypeModel) (m t : ℕ) (o : Option ℕ) → then_up o (up ts m) ≡ Some t → (s : ℕ) × (up ts m s ≡ Some t)
+some_from : (ts : List TypeModel) (m t : ℕ) (o : Option ℕ) → then_up o (up ts m) ≡ Some t → (s : ℕ)
+    × (up ts m s ≡ Some t)
 some_from ts m t None h = absurd (none_some h)
 some_from ts m t (Some s) h = (s, h)
 
@@ -194,7 +231,8 @@ loop_led : (ts : List TypeModel) (m t : ℕ) → is_type_looping ts t ≡ true �
 loop_led ts m t h =
     let b : Back ts (length ts) t t = back ts (length ts) t t h in
     let e : m * suc b.0 ≡ m * b.0 + m = omega arith in
-    some_from ts m t (up ts (m * b.0) t) (sym (up_add ts (m * b.0) m t) ∙ ap (λ (n : ℕ). up ts n t) (sym e) ∙ around ts (suc b.0) t m b.2)
+    some_from ts m t (up ts (m * b.0) t) (sym (up_add ts (m * b.0) m t) ∙ ap (λ (n : ℕ). up ts n t) (sym e)
+    ∙ around ts (suc b.0) t m b.2)
 
 -- marks
 mark_one : (ms : List Bool) (i t : ℕ) → has_mark (set ms i true) t ≡ true → (has_mark ms t ≡ true) ⊎ (i ≡ t)
@@ -230,7 +268,8 @@ led_first o os t e = (0, e)
 led_later : (o : Option ℕ) (os : List (Option ℕ)) (t : ℕ) → Led os t → Led (o ∷ os) t
 led_later o os t h = (suc h.0, h.1)
 
-marked_by : (ms : List Bool) (o : Option ℕ) (t : ℕ) → has_mark (marked ms o) t ≡ true → (has_mark ms t ≡ true) ⊎ (o ≡ Some t)
+marked_by : (ms : List Bool) (o : Option ℕ) (t : ℕ) → has_mark (marked ms o) t ≡ true → (has_mark ms t ≡ true)
+    ⊎ (o ≡ Some t)
 marked_by ms None t h = inl h
 marked_by ms (Some u) t h = by (mark_one ms u t h)
   where
@@ -238,7 +277,8 @@ marked_by ms (Some u) t h = by (mark_one ms u t h)
     by (inl e) = inl e
     by (inr e) = inr (ap Some e)
 
-mark_led : (ms : List Bool) (os : List (Option ℕ)) (t : ℕ) → has_mark (all_marked ms os) t ≡ true → (has_mark ms t ≡ true) ⊎ Led os t
+mark_led : (ms : List Bool) (os : List (Option ℕ)) (t : ℕ) → has_mark (all_marked ms os) t ≡ true →
+    (has_mark ms t ≡ true) ⊎ Led os t
 mark_led ms [] t h = inl h
 mark_led ms (o ∷ os) t h = further (mark_led (marked ms o) os t h)
   where
@@ -265,7 +305,8 @@ length_marked ms (Some u) = length-set ms u true
 gets_one : (ms : List Bool) (o : Option ℕ) (t : ℕ) → t < length ms → o ≡ Some t → has_mark (marked ms o) t ≡ true
 gets_one ms o t lt e = ap (λ (p : Option ℕ). has_mark (marked ms p) t) e ∙ mark_there ms t lt
 
-gets : (ms : List Bool) (os : List (Option ℕ)) (t s : ℕ) → t < length ms → step_at os s ≡ Some t → has_mark (all_marked ms os) t ≡ true
+gets : (ms : List Bool) (os : List (Option ℕ)) (t s : ℕ) → t < length ms → step_at os s ≡ Some t →
+    has_mark (all_marked ms os) t ≡ true
 gets ms [] t s lt h = absurd (none_some h)
 gets ms (o ∷ os) t zero lt h = keeps (marked ms o) os t (gets_one ms o t lt h)
 gets ms (o ∷ os) t (suc s) lt h = gets (marked ms o) os t s (omega (arith, lt, length_marked ms o)) h
@@ -293,13 +334,15 @@ inside ts t h = by (superior_of ts t) refl (back ts (length ts) t t h)
     by None e b = absurd (none_some (ap (λ (o : Option ℕ). then_up o (λ u. up ts b.0 u)) (sym e) ∙ b.2))
     by (Some u) e b = within ts t u e
 
-pub marks_are : (ts : List TypeModel) (steps : List (Option ℕ)) (marks : List Bool) → IsUpBut ts 0 steps → marks ≡ all_marked (replicate (length steps) false) steps → (t : ℕ) → has_mark marks t ≡ is_type_looping ts t
+pub marks_are : (ts : List TypeModel) (steps : List (Option ℕ)) (marks : List Bool) → IsUpBut ts 0 steps →
+    marks ≡ all_marked (replicate (length steps) false) steps → (t : ℕ) → has_mark marks t ≡ is_type_looping ts t
 marks_are ts steps marks h e t =
     ap (λ (ms : List Bool). has_mark ms t) e
     ∙ same_bool (has_mark (all_marked (replicate (length steps) false) steps) t) (is_type_looping ts t)
     (λ m. on (mark_led (replicate (length steps) false) steps t m))
     (λ l. let s : (s : ℕ) × (up ts h.0 s ≡ Some t) = loop_led ts h.0 t l in
-    gets (replicate (length steps) false) steps t s.0 (omega (arith, inside ts t l, length_replicate (length steps), h.2.count)) (h.2.is s.0 ∙ s.1))
+    gets (replicate (length steps) false) steps t s.0
+    (omega (arith, inside ts t l, length_replicate (length steps), h.2.count)) (h.2.is s.0 ∙ s.1))
   where
     many : length ts < h.0
     many = omega (arith, h.1)

@@ -36,7 +36,8 @@ object_class_found types (Some t) = cond (has_identifier_rule (slice_get types t
 
 -- the type objectClass, if it is there with objectIdentifierMatch (RFC 4512 3.3)
 abbrev pub object_class_in : List TypeModel → Option ℕ
-object_class_in types = object_class_found types (position_from (λ t. is_called (codes "objectClass") t.oid t.names) 0 types)
+object_class_in types = object_class_found types (position_from (λ t. is_called (codes "objectClass") t.oid t.names) 0
+    types)
 
 -- the type objectClass, if it is there so and the class top is there too (RFC 4512 2.4.1)
 abbrev pub required_in : SchemaModel → Option ℕ
@@ -62,7 +63,8 @@ is_class_looping classes c = is_among (filled classes (direct_superclasses class
 -- The first line of a type or a class whose SUP leads back to it.
 abbrev pub loop_line : SchemaTextModel → SchemaModel → Option ℕ
 loop_line text s =
-    earlier (first_of_types (λ t d. is_type_looping s.types t) 0 text.types) (first_of_types (λ c d. is_class_looping s.classes c) 0 text.classes)
+    earlier (first_of_types (λ t d. is_type_looping s.types t) 0 text.types)
+    (first_of_types (λ c d. is_class_looping s.classes c) 0 text.classes)
 
 -- whether there is a type, and it has no EQUALITY rule
 abbrev pub has_no_equality : Option TypeModel → Bool
@@ -87,7 +89,8 @@ loop_fault text s =
 abbrev pub unknown_of : SchemaTextModel → SchemaModel → Option ℕ
 unknown_of text s = earlier (unknown_line text) (missing_line text.behind s)
 
--- The first thing that is wrong: a line that is no description or bad together with others, else one that names what is not known,
+-- The first thing that is wrong: a line that is no description or bad together with others, else one that names what is
+-- not known,
 -- else one with a loop, else one without EQUALITY.
 abbrev pub fault_of : SchemaTextModel → SchemaModel → Option SchemaError
 fault_of text s =

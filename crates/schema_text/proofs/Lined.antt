@@ -10,14 +10,16 @@ use Rattle.schema_text.specs.Lines.{LacksFeed, AreLines, no_line, last_line, a_l
 use Rattle.ldap_words.specs.Words.{part_or_nothing}
 
 -- one more part before parts is one more line
-more_parts : (p q : List ℕ) (ps : List (List ℕ)) → lines_of_parts (p ∷ q ∷ ps) ≡ without_return p ∷ lines_of_parts (q ∷ ps)
+more_parts : (p q : List ℕ) (ps : List (List ℕ)) → lines_of_parts (p ∷ q ∷ ps) ≡ without_return p ∷ lines_of_parts
+    (q ∷ ps)
 more_parts p q ps =
     let e : length (p ∷ q ∷ ps) - 1 ≡ suc (length (q ∷ ps) - 1) = omega arith in
     ap (λ n. map without_return (take n (p ∷ q ∷ ps)) ++ one_line (part_or_nothing (slice_get (p ∷ q ∷ ps) n))) e
 
 data IsParted : List ℕ → List (List ℕ) → Type 0 where
   is_last : (ts : List ℕ) → LacksFeed ts → IsParted ts (ts ∷ [])
-  has_more : {rest : List ℕ} {q : List ℕ} {ps : List (List ℕ)} (ts : List ℕ) → LacksFeed ts → IsParted rest (q ∷ ps) → IsParted (ts ++ 10 ∷ rest) (ts ∷ q ∷ ps)
+  has_more : {rest : List ℕ} {q : List ℕ} {ps : List (List ℕ)} (ts : List ℕ) → LacksFeed ts → IsParted rest (q ∷ ps) →
+      IsParted (ts ++ 10 ∷ rest) (ts ∷ q ∷ ps)
 
 some_octets : (n : ℕ) → nat_lt 0 (suc n) ≡ true
 some_octets n = grind (arith, nat_tests)
@@ -31,9 +33,11 @@ last_lines (c ∷ cs) h = subst (AreLines (c ∷ cs)) (sym (one_full c cs)) (las
 
 lines_from : {text : List ℕ} {parts : List (List ℕ)} → IsParted text parts → AreLines text (lines_of_parts parts)
 lines_from (is_last ts h) = last_lines ts h
-lines_from (has_more {rest} {q} {ps} ts h r) = subst (AreLines (ts ++ 10 ∷ rest)) (sym (more_parts ts q ps)) (a_line ts h (lines_from r))
+lines_from (has_more {rest} {q} {ps} ts h r) = subst (AreLines (ts ++ 10 ∷ rest)) (sym (more_parts ts q ps))
+    (a_line ts h (lines_from r))
 
-onto : (t : ℕ) → nat_eq 10 t ≡ false → {ts : List ℕ} {parts : List (List ℕ)} → IsParted ts parts → IsParted (t ∷ ts) (onto_first t parts)
+onto : (t : ℕ) → nat_eq 10 t ≡ false → {ts : List ℕ} {parts : List (List ℕ)} → IsParted ts parts →
+    IsParted (t ∷ ts) (onto_first t parts)
 onto t f (is_last ts h) = is_last (t ∷ ts) (All-cons (λ u. nat_eq 10 u ≡ false) t ts f h)
 onto t f (has_more ts h r) = has_more (t ∷ ts) (All-cons (λ u. nat_eq 10 u ≡ false) t ts f h) r
 
@@ -41,7 +45,8 @@ before : {ts : List ℕ} {parts : List (List ℕ)} → IsParted ts parts → IsP
 before (is_last ts h) = has_more [] (All-nil (λ u. nat_eq 10 u ≡ false)) (is_last ts h)
 before (has_more ts h r) = has_more [] (All-nil (λ u. nat_eq 10 u ≡ false)) (has_more ts h r)
 
-at_octet : (b : Bool) (t : ℕ) (ts : List ℕ) → nat_eq 10 t ≡ b → IsParted ts (slice_split (nat_eq 10) ts) → IsParted (t ∷ ts) (cond b ([] ∷ slice_split (nat_eq 10) ts) (onto_first t (slice_split (nat_eq 10) ts)))
+at_octet : (b : Bool) (t : ℕ) (ts : List ℕ) → nat_eq 10 t ≡ b → IsParted ts (slice_split (nat_eq 10) ts) →
+    IsParted (t ∷ ts) (cond b ([] ∷ slice_split (nat_eq 10) ts) (onto_first t (slice_split (nat_eq 10) ts)))
 at_octet true t ts e r = subst (λ u. IsParted (u ∷ ts) ([] ∷ slice_split (nat_eq 10) ts)) (eqb-true 10 t e) (before r)
 at_octet false t ts e r = onto t e r
 
@@ -50,7 +55,8 @@ split_parted [] = is_last [] (All-nil (λ u. nat_eq 10 u ≡ false))
 split_parted (t ∷ ts) = at_octet (nat_eq 10 t) t ts refl (split_parted ts)
 
 -- one more line before those of parts
-more_by : {ts : List ℕ} {parts : List (List ℕ)} (p : List ℕ) → IsParted ts parts → lines_of_parts (p ∷ parts) ≡ without_return p ∷ lines_of_parts parts
+more_by : {ts : List ℕ} {parts : List (List ℕ)} (p : List ℕ) → IsParted ts parts → lines_of_parts (p ∷ parts) ≡
+    without_return p ∷ lines_of_parts parts
 more_by p (is_last ts h) = more_parts p ts []
 more_by p (has_more {rest} {q} {ps} ts h r) = more_parts p ts (q ∷ ps)
 

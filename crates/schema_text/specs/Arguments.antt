@@ -75,7 +75,8 @@ abbrev pub inner_oid : List Token → Option (List ℕ)
 inner_oid ts = inner_oid_if (without_trailing (without_leading ts))
 
 -- one more text behind those so far, and then those that follow; none, where a piece gave no text
-abbrev pub next_text : List (List ℕ) → Option (List ℕ) → (List (List ℕ) → Option (List (List ℕ))) → Option (List (List ℕ))
+abbrev pub next_text : List (List ℕ) → Option (List ℕ) → (List (List ℕ) → Option (List (List ℕ))) →
+    Option (List (List ℕ))
 next_text xs None f = None
 next_text xs (Some x) f = f (xs ++ x ∷ [])
 
@@ -93,7 +94,8 @@ abbrev pub listed : List Token → Option (List Token)
 listed ts = between is_open is_close ts
 
 -- one of such items, or a list of them
-abbrev pub one_or : (List Token → Option (List ℕ)) → (List Token → Option (List (List ℕ))) → List Token → Option (List Token) → Option (List (List ℕ))
+abbrev pub one_or : (List Token → Option (List ℕ)) → (List Token → Option (List (List ℕ))) → List Token →
+    Option (List Token) → Option (List (List ℕ))
 one_or f g ts None = one (f ts)
 one_or f g ts (Some inside) = g inside
 

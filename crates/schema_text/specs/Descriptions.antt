@@ -61,13 +61,17 @@ abbrev pub fields_end : List FieldModel → Option Keyword → Option (List Fiel
 fields_end fs None = Some fs
 fields_end fs (Some k) = None
 
--- a keyword ends a field where it is a flag, and else waits for its argument; no description, where the piece is no keyword
-abbrev pub begun : Section → List FieldModel → Option Keyword → (List FieldModel → Option Keyword → Option (List FieldModel)) → Option (List FieldModel)
+-- a keyword ends a field where it is a flag, and else waits for its argument; no description, where the piece is no
+-- keyword
+abbrev pub begun : Section → List FieldModel → Option Keyword → (List FieldModel → Option Keyword →
+    Option (List FieldModel)) → Option (List FieldModel)
 begun s fs None f = None
-begun s fs (Some k) f = cond (is_flag (shape_of s k)) (f (fs ++ record { keyword = k; texts = [] } ∷ []) None) (f fs (Some k))
+begun s fs (Some k) f = cond (is_flag (shape_of s k)) (f (fs ++ record { keyword = k; texts = [] } ∷ []) None)
+    (f fs (Some k))
 
 -- the field with its argument behind those so far; no description, where the piece is no such argument
-abbrev pub completed : List FieldModel → Option FieldModel → (List FieldModel → Option Keyword → Option (List FieldModel)) → Option (List FieldModel)
+abbrev pub completed : List FieldModel → Option FieldModel → (List FieldModel → Option Keyword →
+    Option (List FieldModel)) → Option (List FieldModel)
 completed fs None f = None
 completed fs (Some g) f = f (fs ++ g ∷ []) None
 
@@ -76,7 +80,8 @@ abbrev pub with_argument : Section → Keyword → List Token → Option FieldMo
 with_argument s k p = option_and_then (λ xs. Some (record { keyword = k; texts = xs })) (argument_of (shape_of s k) p)
 
 -- a piece is a keyword, or the argument that one waits for
-abbrev pub taken : Section → List FieldModel → Option Keyword → List Token → (List FieldModel → Option Keyword → Option (List FieldModel)) → Option (List FieldModel)
+abbrev pub taken : Section → List FieldModel → Option Keyword → List Token → (List FieldModel → Option Keyword →
+    Option (List FieldModel)) → Option (List FieldModel)
 taken s fs None p f = begun s fs (keyword_at s p) f
 taken s fs (Some k) p f = completed fs (with_argument s k p) f
 
@@ -110,15 +115,18 @@ ordered_fields s ps = option_and_then in_order (fields_from s [] None ps)
 abbrev pub of_pieces : ℕ → Section → List (List Token) → Option DescriptionModel
 of_pieces line s [] = None
 of_pieces line s (p ∷ ps) =
-    option_and_then (λ oid. option_and_then (λ fs. Some (record { line = line; oid = oid; fields = fs })) (ordered_fields s ps)) (numericoid_of p)
+    option_and_then (λ oid. option_and_then (λ fs. Some (record { line = line; oid = oid; fields = fs }))
+    (ordered_fields s ps)) (numericoid_of p)
 
 -- the octets between parentheses
 abbrev pub inside : List ℕ → Option (List ℕ)
 inside [] = None
 inside (c ∷ cs) = cond (nat_eq c 40 && ends_with 41 cs) (Some (take (length cs - 1) cs)) None
 
--- The description that octets are, in a line of this number; none, where they are none (RFC 4512 4.1.1, ObjectClassDescription;
+-- The description that octets are, in a line of this number; none, where they are none (RFC 4512 4.1.1,
+-- ObjectClassDescription;
 -- 4.1.2, AttributeTypeDescription).
 abbrev pub description_of : ℕ → Section → List ℕ → Option DescriptionModel
 description_of line s octets =
-    option_and_then (λ body. option_and_then (λ ts. of_pieces line s (pieces false ts)) (tokens_of body)) (inside octets)
+    option_and_then (λ body. option_and_then (λ ts. of_pieces line s (pieces false ts)) (tokens_of body))
+    (inside octets)

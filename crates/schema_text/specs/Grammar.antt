@@ -9,21 +9,28 @@ use Rattle.schema_text.specs.declared.token.Token.{Token}
 use Rattle.schema_text.specs.declared.keyword.Section.{Section}
 use Rattle.schema_text.specs.declared.keyword.Keyword.{Keyword}
 
--- tokens are pieces with one SPACE or more between two of them, and SPACEs at will at both ends; no piece is empty or has a SPACE
+-- tokens are pieces with one SPACE or more between two of them, and SPACEs at will at both ends; no piece is empty or
+-- has a SPACE
 -- outside quotes (RFC 4512 1.4, SP and WSP)
 pub data IsSpaced (b : Bool) : List Token → List (List Token) → Type 0 where
   nothing : IsSpaced b [] []
-  a_space : {ts : List Token} {ps : List (List Token)} (t : Token) → is_bare b 32 t ≡ true → IsSpaced b ts ps → IsSpaced b (t ∷ ts) ps
+  a_space : {ts : List Token} {ps : List (List Token)} (t : Token) → is_bare b 32 t ≡ true → IsSpaced b ts ps →
+      IsSpaced b (t ∷ ts) ps
   last_piece : (p : List Token) → is_some_piece p ≡ true → All (λ t. is_bare b 32 t ≡ false) p → IsSpaced b p (p ∷ [])
-  a_piece : {ts : List Token} {ps : List (List Token)} (p : List Token) (t : Token) → is_some_piece p ≡ true → All (λ u. is_bare b 32 u ≡ false) p → is_bare b 32 t ≡ true → IsSpaced b ts ps → IsSpaced b (p ++ t ∷ ts) (p ∷ ps)
+  a_piece : {ts : List Token} {ps : List (List Token)} (p : List Token) (t : Token) → is_some_piece p ≡ true →
+      All (λ u. is_bare b 32 u ≡ false) p → is_bare b 32 t ≡ true → IsSpaced b ts ps → IsSpaced b (p ++ t ∷ ts) (p ∷ ps)
 
 -- pieces are fields: a keyword that nothing stands behind, or a keyword and its argument (RFC 4512 4.1.1, 4.1.2)
 pub data AreFields (s : Section) : List (List Token) → List FieldModel → Type 0 where
   no_field : AreFields s [] []
-  a_flag : {ps : List (List Token)} {fs : List FieldModel} (p : List Token) (k : Keyword) → keyword_at s p ≡ Some k → is_flag (shape_of s k) ≡ true → AreFields s ps fs → AreFields s (p ∷ ps) (record { keyword = k; texts = [] } ∷ fs)
-  a_field : {ps : List (List Token)} {fs : List FieldModel} (p q : List Token) (k : Keyword) (xs : List (List ℕ)) → keyword_at s p ≡ Some k → is_flag (shape_of s k) ≡ false → argument_of (shape_of s k) q ≡ Some xs → AreFields s ps fs → AreFields s (p ∷ q ∷ ps) (record { keyword = k; texts = xs } ∷ fs)
+  a_flag : {ps : List (List Token)} {fs : List FieldModel} (p : List Token) (k : Keyword) → keyword_at s p ≡ Some k →
+      is_flag (shape_of s k) ≡ true → AreFields s ps fs → AreFields s (p ∷ ps) (record { keyword = k; texts = [] } ∷ fs)
+  a_field : {ps : List (List Token)} {fs : List FieldModel} (p q : List Token) (k : Keyword) (xs : List (List ℕ)) →
+      keyword_at s p ≡ Some k → is_flag (shape_of s k) ≡ false → argument_of (shape_of s k) q ≡ Some xs →
+      AreFields s ps fs → AreFields s (p ∷ q ∷ ps) (record { keyword = k; texts = xs } ∷ fs)
 
--- Octets are a description: between parentheses a numericoid and fields, with SPACEs between them, each field in its place
+-- Octets are a description: between parentheses a numericoid and fields, with SPACEs between them, each field in its
+-- place
 -- (RFC 4512 4.1.1, ObjectClassDescription; 4.1.2, AttributeTypeDescription).
 pub record IsDescription (s : Section) (octets : List ℕ) (d : DescriptionModel) : Type 0 where
   pub body : List ℕ
@@ -39,4 +46,5 @@ pub record IsDescription (s : Section) (octets : List ℕ) (d : DescriptionModel
 
 -- The description of octets is the one that they are by the grammar, and octets without a description are none.
 abbrev pub DescriptionsAreOfOctets : Type 0
-DescriptionsAreOfOctets = (s : Section) (octets : List ℕ) (d : DescriptionModel) → (description_of d.line s octets ≡ Some d) ↔ IsDescription s octets d
+DescriptionsAreOfOctets = (s : Section) (octets : List ℕ) (d : DescriptionModel) →
+    (description_of d.line s octets ≡ Some d) ↔ IsDescription s octets d

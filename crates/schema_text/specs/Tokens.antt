@@ -17,7 +17,8 @@ abbrev pub standing : Bool → Scan
 standing false = Outside
 standing true = Inside
 
--- what an octet does outside a list, inside one, inside a quoted text, behind a backslash of it, and behind a backslash and a
+-- what an octet does outside a list, inside one, inside a quoted text, behind a backslash of it, and behind a backslash
+-- and a
 -- digit: `\27` is a quote, `\5C` a backslash (RFC 4512 1.4, dstring)
 abbrev pub step : Scan → ℕ → Step
 step Outside c =
@@ -33,7 +34,8 @@ step (Quote b) c =
     (cond (nat_eq c 92) (Gives (Quoted c) (Escape b)) (Gives (Quoted c) (Quote b)))
 step (Escape b) c = cond (nat_eq c 50 || nat_eq c 53) (Gives (Quoted c) (Half b c)) Refuses
 step (Half b d) c =
-    cond ((nat_eq d 50 && nat_eq c 55) || (nat_eq d 53 && (nat_eq c 67 || nat_eq c 99))) (Gives (Quoted c) (Quote b)) Refuses
+    cond ((nat_eq d 50 && nat_eq c 55) || (nat_eq d 53 && (nat_eq c 67 || nat_eq c 99))) (Gives (Quoted c) (Quote b))
+    Refuses
 
 -- the octets end outside lists and quoted texts
 abbrev pub ended : List Token → Scan → Option (List Token)

@@ -19,7 +19,8 @@ use Rattle.ldap_eval.specs.declared.bound.Leaf.{Leaf}
 use Rattle.search_plans.specs.Bounds.{is_test_decided, Bounds}
 use Rattle.search_plans.proofs.LeafValues.{leaf_as, leaf_unknown, unknown_of, leaf_has_type, bounds_by, not_true}
 
-pub decided_as : (ix : List Kinds) (leaf : Leaf) (x : Test) → leaf.test ≡ x → is_test_decided ix leaf.type_id leaf.test ≡ true → is_test_decided ix leaf.type_id x ≡ true
+pub decided_as : (ix : List Kinds) (leaf : Leaf) (x : Test) → leaf.test ≡ x → is_test_decided ix leaf.type_id
+    leaf.test ≡ true → is_test_decided ix leaf.type_id x ≡ true
 decided_as ix leaf x is d = sym (ap (is_test_decided ix leaf.type_id) is) ∙ d
 
 pub and_kept : (k b : Bool) → k ≡ true → (k && b) ≡ b
@@ -33,33 +34,48 @@ same_any : (p q : List ℕ → Bool) → ((x : List ℕ) → p x ≡ q x) → (x
 same_any p q h [] = refl
 same_any p q h (x ∷ xs) = ap₂ (λ (a b : Bool). a || b) (h x) (same_any p q h xs)
 
-some_key_same : (t : ℕ) (p q : List ℕ → Bool) → ((x : List ℕ) → p x ≡ q x) → (e : List KeyedAttribute) → some_key t p e ≡ some_key t q e
+some_key_same : (t : ℕ) (p q : List ℕ → Bool) → ((x : List ℕ) → p x ≡ q x) → (e : List KeyedAttribute) →
+    some_key t p e ≡ some_key t q e
 some_key_same t p q h [] = refl
-some_key_same t p q h (a ∷ e) = ap₂ (λ (x y : Bool). (is_of t a && x) || y) (same_any p q h a.keys) (some_key_same t p q h e)
+some_key_same t p q h (a ∷ e) = ap₂ (λ (x y : Bool). (is_of t a && x) || y) (same_any p q h a.keys)
+    (some_key_same t p q h e)
 
-pub listed_present : (ix : List Kinds) (leaf : Leaf) → leaf.test ≡ test.Present → is_test_decided ix leaf.type_id leaf.test ≡ true
+pub listed_present : (ix : List Kinds) (leaf : Leaf) → leaf.test ≡ test.Present → is_test_decided ix leaf.type_id
+    leaf.test ≡ true
     → let p : Plan = plan.Posting (posting.Present leaf.type_id) in Bounds ix (λ e. leaf_value e leaf) True true p p
 listed_present ix leaf is d =
     bounds_by ix (λ e. leaf_value e leaf) _ (has_type leaf.type_id) (leaf_as leaf test.Present is (λ h. cc))
     (λ e. in_plan-Posting _ _ _ _ ∙ and_kept _ _ (decided_as ix leaf test.Present is d))
 
-pub listed_equal : (ix : List Kinds) (leaf : Leaf) (k v : List ℕ) → leaf.test ≡ test.Equal k → v ≡ k → is_test_decided ix leaf.type_id leaf.test ≡ true
+pub listed_equal : (ix : List Kinds) (leaf : Leaf) (k v : List ℕ) → leaf.test ≡ test.Equal k → v ≡ k →
+    is_test_decided ix leaf.type_id leaf.test ≡ true
     → let p : Plan = plan.Posting (posting.Equal leaf.type_id v) in Bounds ix (λ e. leaf_value e leaf) True true p p
 listed_equal ix leaf k v is same d =
-    bounds_by ix (λ e. leaf_value e leaf) _ (λ e. some_key leaf.type_id (is_same_key k) e) (leaf_as leaf (test.Equal k) is (λ h. cc))
-    (λ e. in_plan-Posting _ _ _ _ ∙ and_kept _ _ (decided_as ix leaf (test.Equal k) is d) ∙ ap (λ (y : List ℕ). some_key leaf.type_id (is_same_key y) e) same)
+    bounds_by ix (λ e. leaf_value e leaf) _ (λ e. some_key leaf.type_id (is_same_key k) e)
+    (leaf_as leaf (test.Equal k) is (λ h. cc))
+    (λ e. in_plan-Posting _ _ _ _ ∙ and_kept _ _ (decided_as ix leaf (test.Equal k) is d)
+    ∙ ap (λ (y : List ℕ). some_key leaf.type_id (is_same_key y) e) same)
 
-pub listed_at_least : (ix : List Kinds) (leaf : Leaf) (k v : List ℕ) → leaf.test ≡ test.AtLeast k → v ≡ k → is_test_decided ix leaf.type_id leaf.test ≡ true
-    → let p : Plan = plan.Range (record { type_id = leaf.type_id; from = Some v; upto = None }) in Bounds ix (λ e. leaf_value e leaf) True true p p
+pub listed_at_least : (ix : List Kinds) (leaf : Leaf) (k v : List ℕ) → leaf.test ≡ test.AtLeast k → v ≡ k →
+    is_test_decided ix leaf.type_id leaf.test ≡ true
+    → let p : Plan = plan.Range (record { type_id = leaf.type_id; from = Some v; upto = None }) in Bounds ix
+    (λ e. leaf_value e leaf) True true p p
 listed_at_least ix leaf k v is same d =
-    bounds_by ix (λ e. leaf_value e leaf) _ (λ e. some_key leaf.type_id (is_key_at_least k) e) (leaf_as leaf (test.AtLeast k) is (λ h. cc))
-    (λ e. in_plan-Range _ _ _ _ ∙ and_kept _ _ (decided_as ix leaf (test.AtLeast k) is d) ∙ ap (λ (y : List ℕ). some_key leaf.type_id (λ x. is_key_at_least y x && true) e) same ∙ some_key_same leaf.type_id _ _ (λ x. and_true _) e)
+    bounds_by ix (λ e. leaf_value e leaf) _ (λ e. some_key leaf.type_id (is_key_at_least k) e)
+    (leaf_as leaf (test.AtLeast k) is (λ h. cc))
+    (λ e. in_plan-Range _ _ _ _ ∙ and_kept _ _ (decided_as ix leaf (test.AtLeast k) is d)
+    ∙ ap (λ (y : List ℕ). some_key leaf.type_id (λ x. is_key_at_least y x && true) e) same
+    ∙ some_key_same leaf.type_id _ _ (λ x. and_true _) e)
 
-pub listed_at_most : (ix : List Kinds) (leaf : Leaf) (k v : List ℕ) → leaf.test ≡ test.AtMost k → v ≡ k → is_test_decided ix leaf.type_id leaf.test ≡ true
-    → let p : Plan = plan.Range (record { type_id = leaf.type_id; from = None; upto = Some v }) in Bounds ix (λ e. leaf_value e leaf) True true p p
+pub listed_at_most : (ix : List Kinds) (leaf : Leaf) (k v : List ℕ) → leaf.test ≡ test.AtMost k → v ≡ k →
+    is_test_decided ix leaf.type_id leaf.test ≡ true
+    → let p : Plan = plan.Range (record { type_id = leaf.type_id; from = None; upto = Some v }) in Bounds ix
+    (λ e. leaf_value e leaf) True true p p
 listed_at_most ix leaf k v is same d =
-    bounds_by ix (λ e. leaf_value e leaf) _ (λ e. some_key leaf.type_id (is_key_at_most k) e) (leaf_as leaf (test.AtMost k) is (λ h. cc))
-    (λ e. in_plan-Range _ _ _ _ ∙ and_kept _ _ (decided_as ix leaf (test.AtMost k) is d) ∙ ap (λ (y : List ℕ). some_key leaf.type_id (λ x. is_key_at_most y x) e) same)
+    bounds_by ix (λ e. leaf_value e leaf) _ (λ e. some_key leaf.type_id (is_key_at_most k) e)
+    (leaf_as leaf (test.AtMost k) is (λ h. cc))
+    (λ e. in_plan-Range _ _ _ _ ∙ and_kept _ _ (decided_as ix leaf (test.AtMost k) is d)
+    ∙ ap (λ (y : List ℕ). some_key leaf.type_id (λ x. is_key_at_most y x) e) same)
 
 -- a value is never true where the type lacks the rule
 pub unknown_not_true : (b : Bool) → unknown_of b ≡ True → ⊥
@@ -96,10 +112,12 @@ not_false false h = refl
 
 -- all but the entries that have the type
 pub unknown_bounds : (ix : List Kinds) (t : ℕ) (m y : Plan) (d : Bool) → (kinds_of ix t).presence ≡ true
-    → ((e : List KeyedAttribute) → holds ix e m ≡ not (holds ix e (plan.Posting (posting.Present t)))) → ((e : List KeyedAttribute) → holds ix e y ≡ not (holds ix e (plan.Posting (posting.Present t))))
+    → ((e : List KeyedAttribute) → holds ix e m ≡ not (holds ix e (plan.Posting (posting.Present t)))) →
+    ((e : List KeyedAttribute) → holds ix e y ≡ not (holds ix e (plan.Posting (posting.Present t))))
     → Bounds ix (λ e. leaf_value e (record { type_id = t; test = test.Unknown })) False d m y
 unknown_bounds ix t m y d kept om oy e =
-    let listed : holds ix e (plan.Posting (posting.Present t)) ≡ has_type t e = in_plan-Posting _ _ _ _ ∙ and_kept _ _ kept in
+    let listed : holds ix e (plan.Posting (posting.Present t)) ≡ has_type t e = in_plan-Posting _ _ _ _
+    ∙ and_kept _ _ kept in
     let is = leaf_unknown (record { type_id = t; test = test.Unknown }) refl e in
     record {
       sound = λ h. is ∙ unknown_is_false _ (sym listed ∙ not_true _ (sym (om e) ∙ h));

@@ -42,7 +42,8 @@ record IsPlanned (must matches may decided has : Bool) : Type 0 where
   runs : may ≡ true → has ≡ true
 
 -- What bound filters say of the decided ones among them, the filters say that they are made of.
-decided_match : (law : TestsAreItems) (s : SchemaModel) (ix : List Kinds) (ts : Trees) (bs : List BoundFilter) → AreMadeOf s ts bs → (name : List RdnModel) (e : List KeyedAttribute) → IsKeyedBy s e
+decided_match : (law : TestsAreItems) (s : SchemaModel) (ix : List Kinds) (ts : Trees) (bs : List BoundFilter) →
+    AreMadeOf s ts bs → (name : List RdnModel) (e : List KeyedAttribute) → IsKeyedBy s e
     → DecidedAreTrue ix name e bs → DecidedMatch s ix ts name e
 decided_match law s ix no_trees [] made name e keyed h = tt
 decided_match law s ix no_trees (b ∷ bs) made name e keyed h = absurd made
@@ -54,18 +55,24 @@ decided_match law s ix (tree t ts) (b ∷ bs) made name e keyed h = (
 
 -- what may be true of an `and` is true of each of its parts that are decided
 abbrev pub PartsHold : List Kinds → BoundFilter → Plan → Type 0
-PartsHold ix b may = (v : Vec BoundFilter Global) → b ≡ bound.And v → (n : List RdnModel) (e : List KeyedAttribute) → holds ix e may ≡ true → DecidedAreTrue ix n e v.items
+PartsHold ix b may = (v : Vec BoundFilter Global) → b ≡ bound.And v → (n : List RdnModel) (e : List KeyedAttribute) →
+    holds ix e may ≡ true → DecidedAreTrue ix n e v.items
 
-parts_match : (law : TestsAreItems) (s : SchemaModel) (ix : List Kinds) (t : Tree) (b : BoundFilter) (may : Plan) → IsMadeOf s t b → PartsHold ix b may → (name : List RdnModel) (e : List KeyedAttribute) → IsKeyedBy s e
+parts_match : (law : TestsAreItems) (s : SchemaModel) (ix : List Kinds) (t : Tree) (b : BoundFilter) (may : Plan) →
+    IsMadeOf s t b → PartsHold ix b may → (name : List RdnModel) (e : List KeyedAttribute) → IsKeyedBy s e
     → holds ix e may ≡ true → DecidedPartsMatch s ix t name e
-parts_match law s ix (conj ts) b may made parts name e keyed h = decided_match law s ix ts made.parts.items made.hold name e keyed (parts made.parts made.is name e h)
+parts_match law s ix (conj ts) b may made parts name e keyed h = decided_match law s ix ts made.parts.items made.hold
+    name e keyed (parts made.parts made.is name e h)
 parts_match law s ix (disj ts) b may made parts name e keyed h = tt
 parts_match law s ix (negation t) b may made parts name e keyed h = tt
 parts_match law s ix (item i) b may made parts name e keyed h = tt
 
-module _ (agree : SetsAreOfEntries) (law : TestsAreItems) (s : SchemaModel) (ix : List Kinds) (t : Tree) (b : BoundFilter) (must may : Plan) where
-  of_entry : IsSide ix true b must may → IsBoundTo s t b → IsMadeOf s t b → (name : List RdnModel) (e : List KeyedAttribute) → IsKeyedBy s e
-      → IsPlanned (holds ix e must) (is_match s t name e) (holds ix e may) (is_decided s ix t) (has_runs s ix (attributes_of e) t)
+module _ (agree : SetsAreOfEntries) (law : TestsAreItems) (s : SchemaModel) (ix : List Kinds) (t : Tree)
+    (b : BoundFilter) (must may : Plan) where
+  of_entry : IsSide ix true b must may → IsBoundTo s t b → IsMadeOf s t b →
+      (name : List RdnModel) (e : List KeyedAttribute) → IsKeyedBy s e
+      → IsPlanned (holds ix e must) (is_match s t name e) (holds ix e may) (is_decided s ix t)
+      (has_runs s ix (attributes_of e) t)
   of_entry side stands made name e keyed =
       let bounds = side.bounds name e in
       let same : bound_value name e b ≡ filter_value s t name (attributes_of e) = stands name e keyed in
@@ -76,13 +83,17 @@ module _ (agree : SetsAreOfEntries) (law : TestsAreItems) (s : SchemaModel) (ix 
         runs = λ h. sym (runs_same law s ix e keyed t b made) ∙ side.runs refl e h;
       }
 
-  in_set : (es : List Indexed) (scope : List ℕ) (n : ℕ) (e : List KeyedAttribute) (p : Plan) → AreNumbered es → HasEntry es n e → has_number n scope ≡ true → holds ix e p ≡ is_in (postings_of ix es) scope p n
+  in_set : (es : List Indexed) (scope : List ℕ) (n : ℕ) (e : List KeyedAttribute) (p : Plan) → AreNumbered es →
+      HasEntry es n e → has_number n scope ≡ true → holds ix e p ≡ is_in (postings_of ix es) scope p n
   in_set es scope n e p num has at = sym (agree ix es scope n e p num has at)
 
-  pub planned : IsSide ix true b must may → PartsHold ix b may → IsBoundTo s t b → IsMadeOf s t b → ArePlansFor s ix t must may
+  pub planned : IsSide ix true b must may → PartsHold ix b may → IsBoundTo s t b → IsMadeOf s t b →
+      ArePlansFor s ix t must may
   planned side held stands made = record {
-    sound = λ es scope n name e num has keyed at h. (of_entry side stands made name e keyed).sound (in_set es scope n e must num has at ∙ h);
-    complete = λ es scope n name e num has keyed at h. sym (in_set es scope n e may num has at) ∙ (of_entry side stands made name e keyed).complete h;
+    sound = λ es scope n name e num has keyed at h. (of_entry side stands made name e keyed).sound
+        (in_set es scope n e must num has at ∙ h);
+    complete = λ es scope n name e num has keyed at h. sym (in_set es scope n e may num has at)
+        ∙ (of_entry side stands made name e keyed).complete h;
     decided = λ d. (
       λ es scope n name e num has keyed at.
           let x = of_entry side stands made name e keyed in
@@ -91,6 +102,8 @@ module _ (agree : SetsAreOfEntries) (law : TestsAreItems) (s : SchemaModel) (ix 
           let x = of_entry side stands made name e keyed in
           sym (in_set es scope n e may num has at) ∙ both_ways _ _ (λ h. x.sound (x.exact d h)) x.complete,
     );
-    parts = λ es scope n name e num has keyed at h. parts_match law s ix t b may made held name e keyed (in_set es scope n e may num has at ∙ h);
-    runs = λ es scope n name e num has keyed at h. (of_entry side stands made name e keyed).runs (in_set es scope n e may num has at ∙ h);
+    parts = λ es scope n name e num has keyed at h. parts_match law s ix t b may made held name e keyed
+        (in_set es scope n e may num has at ∙ h);
+    runs = λ es scope n name e num has keyed at h. (of_entry side stands made name e keyed).runs
+        (in_set es scope n e may num has at ∙ h);
   }

@@ -15,7 +15,8 @@ all_at P (x ∷ xs) (suc i) h lt = all_at P xs i h.1 (omega arith)
 rising_at : (xs : List ℕ) → IsRising xs → (i j : ℕ) → i ≤ j → j < length xs → get_or xs i 0 ≤ get_or xs j 0
 rising_at [] h i j le lt = absurd (omega arith)
 rising_at (x ∷ xs) h zero zero le lt = omega arith
-rising_at (x ∷ xs) h zero (suc j) le lt = let below : x < get_or xs j 0 = all_at (λ y. x < y) xs j h.0 (omega arith) in omega arith
+rising_at (x ∷ xs) h zero (suc j) le lt = let below : x < get_or xs j 0 = all_at (λ y. x < y) xs j h.0 (omega arith)
+    in omega arith
 rising_at (x ∷ xs) h (suc i) zero le lt = absurd (omega arith)
 rising_at (x ∷ xs) h (suc i) (suc j) le lt = rising_at xs h.1 i j (omega arith) (omega arith)
 
@@ -35,13 +36,15 @@ both_false false b h k = k
 has_nowhere : (n : ℕ) (xs : List ℕ) → ((k : ℕ) → k < length xs → get_or xs k 0 ≡ n → ⊥) → has_number n xs ≡ false
 has_nowhere n [] h = refl
 has_nowhere n (x ∷ xs) h =
-    both_false _ _ (ne_eqb n x (λ e. h 0 (omega arith) (sym e))) (has_nowhere n xs (λ k lt is. h (suc k) (omega arith) is))
+    both_false _ _ (ne_eqb n x (λ e. h 0 (omega arith) (sym e)))
+    (has_nowhere n xs (λ k lt is. h (suc k) (omega arith) is))
 
 abbrev pub found_of : Result ℕ ℕ → Bool
 found_of (Ok i) = true
 found_of (Err i) = false
 
-pub search_tells : (xs : List ℕ) (n : ℕ) (r : Result ℕ ℕ) → IsRising xs → IsBinarySearchResult (λ y. nat_cmp y n) xs r → found_of r ≡ has_number n xs
+pub search_tells : (xs : List ℕ) (n : ℕ) (r : Result ℕ ℕ) → IsRising xs → IsBinarySearchResult (λ y. nat_cmp y n) xs
+    r → found_of r ≡ has_number n xs
 search_tells xs n (Ok i) h is =
     let at = searched xs n (Ok i) is (rising_at xs h) in
     sym (has_at n xs i at.0 at.1)

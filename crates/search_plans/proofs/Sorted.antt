@@ -24,7 +24,8 @@ rising_of (x ∷ xs) h = (all_less x xs h.0, rising_of xs h.1)
 
 -- sorted numbers without repeats rise
 pub sorted_rising : (xs ys : List ℕ) → IsSorted nat_cmp xs → IsFiltered (DiffersFromLast eqb) [] xs ys → IsRising ys
-sorted_rising xs ys sorted kept = rw (dedup_is eqb xs ys kept) (rising_of (dedup eqb xs) (IsStrictlySortedBy-dedup nat_cmp_total unsigned_ties xs sorted))
+sorted_rising xs ys sorted kept = rw (dedup_is eqb xs ys kept)
+    (rising_of (dedup eqb xs) (IsStrictlySortedBy-dedup nat_cmp_total unsigned_ties xs sorted))
 
 both_ways : (a b : Bool) → (a ≡ true → b ≡ true) → (b ≡ true → a ≡ true) → a ≡ b
 both_ways true true f g = refl
@@ -39,9 +40,12 @@ of_has : (xs : List ℕ) (n : ℕ) → has_number n xs ≡ true → Contains xs 
 of_has xs n h = Contains-from_any (λ x y e. eqb-true x y e) n xs h
 
 -- and they are the same numbers
-pub sorted_has : (xs ys zs : List ℕ) (n : ℕ) → IsPermutation xs ys → IsFiltered (DiffersFromLast eqb) [] ys zs → has_number n zs ≡ has_number n xs
+pub sorted_has : (xs ys zs : List ℕ) (n : ℕ) → IsPermutation xs ys → IsFiltered (DiffersFromLast eqb) [] ys zs →
+    has_number n zs ≡ has_number n xs
 sorted_has xs ys zs n moved kept =
     let is : zs ≡ dedup eqb ys = dedup_is eqb ys zs kept in
     both_ways _ _
-    (λ h. has_of xs n (Contains-permutation ys xs n (IsPermutation-sym xs ys moved) (Contains-from_dedup eqb ys n (subst (λ (l : List ℕ). Contains l n) is (of_has zs n h)))))
-    (λ h. has_of zs n (subst (λ (l : List ℕ). Contains l n) (sym is) (Contains-dedup_nat ys n (Contains-permutation xs ys n moved (of_has xs n h)))))
+    (λ h. has_of xs n (Contains-permutation ys xs n (IsPermutation-sym xs ys moved)
+    (Contains-from_dedup eqb ys n (subst (λ (l : List ℕ). Contains l n) is (of_has zs n h)))))
+    (λ h. has_of zs n (subst (λ (l : List ℕ). Contains l n) (sym is)
+    (Contains-dedup_nat ys n (Contains-permutation xs ys n moved (of_has xs n h)))))

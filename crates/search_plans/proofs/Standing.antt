@@ -65,7 +65,8 @@ stands_later g a x s = record { front = a ∷ s.front; back = s.back; is = ap (�
 
 pub stands_at : (g x : List ℕ) → stands_in g x ≡ true → StandsAt g x
 stands_at g [] h = elim (or_parts _ _ h) [ inl u ↦ stands_at_start g [] u | inr u ↦ let k : false ≡ true = u in cc ]
-stands_at g (a ∷ x) h = elim (or_parts _ _ h) [ inl u ↦ stands_at_start g (a ∷ x) u | inr u ↦ stands_later g a x (stands_at g x u) ]
+stands_at g (a ∷ x) h = elim (or_parts _ _ h)
+    [ inl u ↦ stands_at_start g (a ∷ x) u | inr u ↦ stands_later g a x (stands_at g x u) ]
 
 pub stands_trans : (g p x : List ℕ) → StandsAt g p → StandsAt p x → StandsAt g x
 stands_trans g p x s t = record {
@@ -78,7 +79,8 @@ pub stands_behind : (g : List ℕ) (n : ℕ) (x : List ℕ) → StandsAt g (drop
 stands_behind g n x s = record {
   front = take n x ++ s.front;
   back = s.back;
-  is = sym (take-append-drop n x) ∙ ap (λ (y : List ℕ). take n x ++ y) s.is ∙ sym (append_assoc (take n x) s.front (g ++ s.back));
+  is = sym (take-append-drop n x) ∙ ap (λ (y : List ℕ). take n x ++ y) s.is
+      ∙ sym (append_assoc (take n x) s.front (g ++ s.back));
 }
 
 pub stands_in_front : (g : List ℕ) (n : ℕ) (x : List ℕ) → StandsAt g (take n x) → StandsAt g x

@@ -5,10 +5,12 @@ use Rattle.std.proofs.lemmas.List.Edits.{map_over_more}
 use Rattle.search_plans.specs.private.Streams.{behind, IsLeastHead, lesser}
 use Rattle.search_plans.proofs.Together.{least_push}
 
-pub least_step : (ls : List (List ℕ)) (i : ℕ) (x : List ℕ) (best best' : Option ℕ) → i < length ls → x ≡ get_or ls i x → best' ≡ lesser best x
+pub least_step : (ls : List (List ℕ)) (i : ℕ) (x : List ℕ) (best best' : Option ℕ) → i < length ls →
+    x ≡ get_or ls i x → best' ≡ lesser best x
     → IsLeastHead best (take i ls) → IsLeastHead best' (take (i + 1) ls)
 least_step ls i x best best' lt at is so_far =
-    let more : take (i + 1) ls ≡ take i ls ++ x ∷ [] = take_more ls i x lt ∙ ap (λ (y : List ℕ). take i ls ++ y ∷ []) (sym at) in
+    let more : take (i + 1) ls ≡ take i ls ++ x ∷ [] = take_more ls i x lt ∙ ap (λ (y : List ℕ). take i ls ++ y ∷ [])
+    (sym at) in
     rw (more, is) (least_push best (take i ls) x so_far)
 
 pub skip_step : (n : ℕ) (old ls : List (List ℕ)) (i : ℕ) (x r : List ℕ) → i < length ls → length ls ≡ length old

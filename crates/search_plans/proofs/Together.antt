@@ -13,7 +13,8 @@ use Rattle.search_plans.proofs.Searching.{or_late}
 put_above : (b n : ℕ) (xs : List ℕ) → b < n → AllByRecursion (λ y. b < y) xs → AllByRecursion (λ y. b < y) (put n xs)
 put_above b n [] lt h = (lt, tt)
 put_above b n (x ∷ xs) lt h =
-    elim (nat_lt n x) as (λ v. AllByRecursion (λ y. b < y) (cond v (n ∷ x ∷ xs) (cond (nat_eq n x) (x ∷ xs) (x ∷ put n xs)))) [
+    elim (nat_lt n x) as (λ v. AllByRecursion (λ y. b < y)
+    (cond v (n ∷ x ∷ xs) (cond (nat_eq n x) (x ∷ xs) (x ∷ put n xs)))) [
       | true ↦ (lt, h)
       | false ↦ elim (nat_eq n x) as (λ w. AllByRecursion (λ y. b < y) (cond w (x ∷ xs) (x ∷ put n xs))) [
         | true ↦ h
@@ -30,7 +31,8 @@ above_both n x l e =
 put_rising : (n : ℕ) (xs : List ℕ) → IsRising xs → IsRising (put n xs)
 put_rising n [] h = (tt, tt)
 put_rising n (x ∷ xs) h =
-    (elim (nat_lt n x) as (λ v. nat_lt n x ≡ v → IsRising (cond v (n ∷ x ∷ xs) (cond (nat_eq n x) (x ∷ xs) (x ∷ put n xs)))) [
+    (elim (nat_lt n x) as (λ v. nat_lt n x ≡ v →
+    IsRising (cond v (n ∷ x ∷ xs) (cond (nat_eq n x) (x ∷ xs) (x ∷ put n xs)))) [
       | true ↦ λ e. let lt : n < x = ltb-true n x e in ((lt, all_above n x xs lt h.0), h)
       | false ↦ λ e. (elim (nat_eq n x) as (λ w. nat_eq n x ≡ w → IsRising (cond w (x ∷ xs) (x ∷ put n xs))) [
         | true ↦ λ d. h
@@ -58,14 +60,18 @@ or_swap false b c = refl
 has_put : (m n : ℕ) (xs : List ℕ) → has_number m (put n xs) ≡ (nat_eq m n || has_number m xs)
 has_put m n [] = refl
 has_put m n (x ∷ xs) =
-    elim (nat_lt n x) as (λ v. has_number m (cond v (n ∷ x ∷ xs) (cond (nat_eq n x) (x ∷ xs) (x ∷ put n xs))) ≡ (nat_eq m n || (nat_eq m x || has_number m xs))) [
+    elim (nat_lt n x) as (λ v. has_number m (cond v (n ∷ x ∷ xs) (cond (nat_eq n x) (x ∷ xs) (x ∷ put n xs))) ≡
+    (nat_eq m n || (nat_eq m x || has_number m xs))) [
       | true ↦ refl
-      | false ↦ (elim (nat_eq n x) as (λ w. nat_eq n x ≡ w → has_number m (cond w (x ∷ xs) (x ∷ put n xs)) ≡ (nat_eq m n || (nat_eq m x || has_number m xs))) [
-        | true ↦ λ d.
-            let same : n ≡ x = eqb-true n x d in
-            sym (or_again (nat_eq m x) (has_number m xs)) ∙ ap (λ (k : ℕ). nat_eq m k || (nat_eq m x || has_number m xs)) (sym same)
-        | false ↦ λ d. ap (λ (b : Bool). nat_eq m x || b) (has_put m n xs) ∙ or_swap (nat_eq m x) (nat_eq m n) (has_number m xs)
-      ]) refl
+      | false ↦ (elim (nat_eq n x) as (λ w. nat_eq n x ≡ w → has_number m (cond w (x ∷ xs) (x ∷ put n xs)) ≡
+          (nat_eq m n || (nat_eq m x || has_number m xs))) [
+            | true ↦ λ d.
+                let same : n ≡ x = eqb-true n x d in
+                sym (or_again (nat_eq m x) (has_number m xs))
+                ∙ ap (λ (k : ℕ). nat_eq m k || (nat_eq m x || has_number m xs)) (sym same)
+            | false ↦ λ d. ap (λ (b : Bool). nat_eq m x || b) (has_put m n xs) ∙ or_swap (nat_eq m x) (nat_eq m n)
+                (has_number m xs)
+          ]) refl
     ]
 
 or_more : (a b c : Bool) → (a || b || c) ≡ (a || (b || c))
@@ -75,7 +81,8 @@ or_more false b c = refl
 has_put_all : (m : ℕ) (xs ys : List ℕ) → has_number m (put_all xs ys) ≡ (has_number m xs || has_number m ys)
 has_put_all m [] ys = refl
 has_put_all m (x ∷ xs) ys =
-    has_put m x (put_all xs ys) ∙ ap (λ (b : Bool). nat_eq m x || b) (has_put_all m xs ys) ∙ sym (or_more (nat_eq m x) (has_number m xs) (has_number m ys))
+    has_put m x (put_all xs ys) ∙ ap (λ (b : Bool). nat_eq m x || b) (has_put_all m xs ys)
+    ∙ sym (or_more (nat_eq m x) (has_number m xs) (has_number m ys))
 
 -- a number is among the lists together, where it is in one of them
 pub has_together : (m : ℕ) (ls : List (List ℕ)) → has_number m (together ls) ≡ list_any (has_number m) ls
@@ -94,7 +101,8 @@ behind_all_rising n (xs ∷ ls) h = (behind_rising n xs h.0, behind_all_rising n
 has_behind : (m n : ℕ) (xs : List ℕ) → (nat_eq m n || has_number m xs) ≡ (nat_eq m n || has_number m (behind n xs))
 has_behind m n [] = refl
 has_behind m n (x ∷ xs) =
-    (elim (nat_eq x n) as (λ v. nat_eq x n ≡ v → (nat_eq m n || (nat_eq m x || has_number m xs)) ≡ (nat_eq m n || has_number m (cond v xs (x ∷ xs)))) [
+    (elim (nat_eq x n) as (λ v. nat_eq x n ≡ v → (nat_eq m n || (nat_eq m x || has_number m xs)) ≡
+    (nat_eq m n || has_number m (cond v xs (x ∷ xs)))) [
       | true ↦ λ e.
           let same : x ≡ n = eqb-true x n e in
           ap (λ (k : ℕ). nat_eq m n || (nat_eq m k || has_number m xs)) same ∙ or_again (nat_eq m n) (has_number m xs)
@@ -105,7 +113,8 @@ or_part : (a b c b' c' : Bool) → (a || b) ≡ (a || b') → (a || c) ≡ (a ||
 or_part true b c b' c' h k = refl
 or_part false b c b' c' h k = ap₂ (λ (x y : Bool). x || y) h k
 
-any_behind : (m n : ℕ) (ls : List (List ℕ)) → (nat_eq m n || list_any (has_number m) ls) ≡ (nat_eq m n || list_any (has_number m) (map (behind n) ls))
+any_behind : (m n : ℕ) (ls : List (List ℕ)) → (nat_eq m n || list_any (has_number m) ls) ≡
+    (nat_eq m n || list_any (has_number m) (map (behind n) ls))
 any_behind m n [] = refl
 any_behind m n (xs ∷ ls) = or_part (nat_eq m n) _ _ _ _ (has_behind m n xs) (any_behind m n ls)
 
@@ -122,14 +131,17 @@ above_behind n (x ∷ xs) r from =
           (lt, all_above n x xs lt r.0)
     ]) refl
 
-put_all_above : (b : ℕ) (xs ys : List ℕ) → AllByRecursion (λ y. b < y) xs → AllByRecursion (λ y. b < y) ys → AllByRecursion (λ y. b < y) (put_all xs ys)
+put_all_above : (b : ℕ) (xs ys : List ℕ) → AllByRecursion (λ y. b < y) xs → AllByRecursion (λ y. b < y) ys →
+    AllByRecursion (λ y. b < y) (put_all xs ys)
 put_all_above b [] ys h k = k
 put_all_above b (x ∷ xs) ys h k = put_above b x (put_all xs ys) h.0 (put_all_above b xs ys h.1 k)
 
-all_above_behind : (n : ℕ) (ls : List (List ℕ)) → AreRising ls → AllByRecursion (BeginsFrom n) ls → AllByRecursion (λ y. n < y) (together (map (behind n) ls))
+all_above_behind : (n : ℕ) (ls : List (List ℕ)) → AreRising ls → AllByRecursion (BeginsFrom n) ls →
+    AllByRecursion (λ y. n < y) (together (map (behind n) ls))
 all_above_behind n [] r from = tt
 all_above_behind n (xs ∷ ls) r from =
-    put_all_above n (behind n xs) (together (map (behind n) ls)) (above_behind n xs r.0 from.0) (all_above_behind n ls r.1 from.1)
+    put_all_above n (behind n xs) (together (map (behind n) ls)) (above_behind n xs r.0 from.0)
+    (all_above_behind n ls r.1 from.1)
 
 pub or_true : (a b : Bool) → a ≡ true → (a || b) ≡ true
 or_true true b h = refl
@@ -146,7 +158,8 @@ begins_has n (x ∷ xs) h = or_true _ _ h
 any_begins : (n : ℕ) (ls : List (List ℕ)) → list_any (begins_with n) ls ≡ true → list_any (has_number n) ls ≡ true
 any_begins n [] h = h
 any_begins n (xs ∷ ls) h =
-    (elim (begins_with n xs) as (λ v. begins_with n xs ≡ v → (v || list_any (begins_with n) ls) ≡ true → (has_number n xs || list_any (has_number n) ls) ≡ true) [
+    (elim (begins_with n xs) as (λ v. begins_with n xs ≡ v → (v || list_any (begins_with n) ls) ≡ true →
+    (has_number n xs || list_any (has_number n) ls) ≡ true) [
       | true ↦ λ e k. or_true _ _ (begins_has n xs e)
       | false ↦ λ e k. or_late (has_number n xs) _ (any_begins n ls k)
     ]) refl h
@@ -159,13 +172,15 @@ has_itself m n b h =
     ]) refl
 
 -- The least head, and then what is left behind it, are the lists together.
-pub next_is : (n : ℕ) (ls : List (List ℕ)) → AreRising ls → IsLeastHead (Some n) ls → together ls ≡ n ∷ together (map (behind n) ls)
+pub next_is : (n : ℕ) (ls : List (List ℕ)) → AreRising ls → IsLeastHead (Some n) ls → together ls ≡ n ∷ together
+    (map (behind n) ls)
 next_is n ls rising least =
     rising_same (together ls) (n ∷ together (map (behind n) ls)) (together_rising ls)
     (all_above_behind n ls rising least.1, together_rising (map (behind n) ls))
     (λ m.
     has_together m ls
-    ∙ has_itself m n (list_any (has_number m) ls) (λ same. subst (λ (k : ℕ). list_any (has_number k) ls ≡ true) (sym same) (any_begins n ls least.0))
+    ∙ has_itself m n (list_any (has_number m) ls) (λ same. subst (λ (k : ℕ). list_any (has_number k) ls ≡ true)
+    (sym same) (any_begins n ls least.0))
     ∙ any_behind m n ls
     ∙ ap (λ (b : Bool). nat_eq m n || b) (sym (has_together m (map (behind n) ls))))
 
@@ -174,7 +189,8 @@ none_left [] h = refl
 none_left (xs ∷ ls) h = ap (λ (ys : List ℕ). put_all ys (together ls)) h.0 ∙ none_left ls h.1
 
 -- one more list
-all_push : {X : Type 0} (P : X → Type 0) (xs : List X) (x : X) → AllByRecursion P xs → P x → AllByRecursion P (xs ++ x ∷ [])
+all_push : {X : Type 0} (P : X → Type 0) (xs : List X) (x : X) → AllByRecursion P xs → P x →
+    AllByRecursion P (xs ++ x ∷ [])
 all_push P [] x h p = (p, tt)
 all_push P (y ∷ xs) x h p = (h.0, all_push P xs x h.1 p)
 
@@ -182,7 +198,8 @@ any_push : {X : Type 0} (p : X → Bool) (xs : List X) (x : X) → list_any p (x
 any_push p [] x = sym (or_none (p x))
 any_push p (y ∷ xs) x = ap (λ (b : Bool). p y || b) (any_push p xs x) ∙ sym (or_more (p y) (list_any p xs) (p x))
 
-from_lower : (n x : ℕ) (ls : List (List ℕ)) → x < n → AllByRecursion (BeginsFrom n) ls → AllByRecursion (BeginsFrom x) ls
+from_lower : (n x : ℕ) (ls : List (List ℕ)) → x < n → AllByRecursion (BeginsFrom n) ls → AllByRecursion (BeginsFrom x)
+    ls
 from_lower n x [] lt h = tt
 from_lower n x ([] ∷ ls) lt h = (tt, from_lower n x ls lt h.1)
 from_lower n x ((y ∷ ys) ∷ ls) lt h = (let le : n ≤ y = h.0 in omega arith, from_lower n x ls lt h.1)
@@ -191,15 +208,27 @@ from_empty : (x : ℕ) (ls : List (List ℕ)) → AllByRecursion (λ xs. xs ≡ 
 from_empty x [] h = tt
 from_empty x (xs ∷ ls) h = (subst (BeginsFrom x) (sym h.0) tt, from_empty x ls h.1)
 
-pub least_push : (best : Option ℕ) (ls : List (List ℕ)) (xs : List ℕ) → IsLeastHead best ls → IsLeastHead (lesser best xs) (ls ++ xs ∷ [])
+pub least_push : (best : Option ℕ) (ls : List (List ℕ)) (xs : List ℕ) → IsLeastHead best ls →
+    IsLeastHead (lesser best xs) (ls ++ xs ∷ [])
 least_push None ls [] h = all_push (λ ys. ys ≡ []) ls [] h refl
 least_push (Some n) ls [] h = (any_push (begins_with n) ls [] ∙ or_true _ _ h.0, all_push (BeginsFrom n) ls [] h.1 tt)
-least_push None ls (x ∷ xs) h =
-    (any_push (begins_with x) ls (x ∷ xs) ∙ or_late _ _ (eq-eqb x x refl), all_push (BeginsFrom x) ls (x ∷ xs) (from_empty x ls h) (omega arith))
+least_push None ls (x ∷ xs) h = (
+  any_push (begins_with x) ls (x ∷ xs) ∙ or_late _ _ (eq-eqb x x refl),
+  all_push (BeginsFrom
+      x) ls (x ∷ xs) (from_empty x ls h) (omega arith),
+)
 least_push (Some n) ls (x ∷ xs) h =
     (elim (nat_lt x n) as (λ v. nat_lt x n ≡ v → IsLeastHead (cond v (Some x) (Some n)) (ls ++ (x ∷ xs) ∷ [])) [
-      | true ↦ λ e. (any_push (begins_with x) ls (x ∷ xs) ∙ or_late _ _ (eq-eqb x x refl), all_push (BeginsFrom x) ls (x ∷ xs) (from_lower n x ls (ltb-true x n e) h.1) (omega arith))
-      | false ↦ λ e. (any_push (begins_with n) ls (x ∷ xs) ∙ or_true _ _ h.0, all_push (BeginsFrom n) ls (x ∷ xs) h.1 (ltb-false x n e))
+      | true ↦ λ e. (
+        any_push (begins_with x) ls (x ∷ xs) ∙ or_late _ _ (eq-eqb x x refl),
+        all_push (BeginsFrom
+            x) ls (x ∷ xs) (from_lower n x ls (ltb-true x n e) h.1) (omega arith),
+      )
+      | false ↦ λ e. (
+        any_push (begins_with n) ls (x ∷ xs) ∙ or_true _ _ h.0,
+        all_push (BeginsFrom
+            n) ls (x ∷ xs) h.1 (ltb-false x n e),
+      )
     ]) refl
 
 or_nothing : (b : Bool) → (b || false) ≡ b
@@ -208,4 +237,5 @@ or_nothing false = refl
 
 -- one list together is itself
 pub together_one : (xs : List ℕ) → IsRising xs → together (xs ∷ []) ≡ xs
-together_one xs r = rising_same (together (xs ∷ [])) xs (together_rising (xs ∷ [])) r (λ m. has_together m (xs ∷ []) ∙ or_nothing (has_number m xs))
+together_one xs r = rising_same (together (xs ∷ [])) xs (together_rising (xs ∷ [])) r (λ m. has_together m (xs ∷ [])
+    ∙ or_nothing (has_number m xs))

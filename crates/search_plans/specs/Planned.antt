@@ -17,11 +17,13 @@ use Rattle.search_plans.specs.Held.{has_runs}
 abbrev pub is_match : SchemaModel → Tree → List RdnModel → List KeyedAttribute → Bool
 is_match s t name e = is_true (filter_value s t name (attributes_of e))
 
--- Over the posting lists of any entries that the schema keys, and any scope: of each entry in scope, of any name, what this says of the plan's
+-- Over the posting lists of any entries that the schema keys, and any scope: of each entry in scope, of any name, what
+-- this says of the plan's
 -- set, the name and the entry.
 abbrev pub OfEach : SchemaModel → List Kinds → Plan → (Bool → List RdnModel → List KeyedAttribute → Type 0) → Type 0
 OfEach s ix p says = (es : List Indexed) (scope : List ℕ) (n : ℕ) (name : List RdnModel) (e : List KeyedAttribute)
-    → AreNumbered es → HasEntry es n e → IsKeyedBy s e → has_number n scope ≡ true → says (is_in (postings_of ix es) scope p n) name e
+    → AreNumbered es → HasEntry es n e → IsKeyedBy s e → has_number n scope ≡ true →
+    says (is_in (postings_of ix es) scope p n) name e
 
 -- A plan's set is a filter's true set: it has just the entries that the filter is True on.
 abbrev pub IsTrueSet : SchemaModel → List Kinds → Tree → Plan → Type 0
@@ -30,7 +32,8 @@ IsTrueSet s ix t p = OfEach s ix p (λ is_there name e. is_there ≡ is_match s 
 -- each of the filters that the schema and the index choice decide is True
 abbrev pub DecidedMatch : SchemaModel → List Kinds → Trees → List RdnModel → List KeyedAttribute → Type 0
 DecidedMatch s ix no_trees name e = Unit {0}
-DecidedMatch s ix (tree t ts) name e = (is_decided s ix t ≡ true → is_match s t name e ≡ true) × DecidedMatch s ix ts name e
+DecidedMatch s ix (tree t ts) name e = (is_decided s ix t ≡ true → is_match s t name e ≡ true)
+    × DecidedMatch s ix ts name e
 
 -- of an `and`, each part that they decide is True; of another filter this says nothing
 abbrev pub DecidedPartsMatch : SchemaModel → List Kinds → Tree → List RdnModel → List KeyedAttribute → Type 0
@@ -39,8 +42,10 @@ DecidedPartsMatch s ix (disj ts) name e = Unit {0}
 DecidedPartsMatch s ix (negation t) name e = Unit {0}
 DecidedPartsMatch s ix (item i) name e = Unit {0}
 
--- Two plans are planned for a filter under a schema and an index choice: what must is True, and what is True may; where the schema and the index
--- choice decide the filter, both are its true set; on what may be True of an `and`, each part that they decide is True; and what may has values
+-- Two plans are planned for a filter under a schema and an index choice: what must is True, and what is True may; where
+-- the schema and the index
+-- choice decide the filter, both are its true set; on what may be True of an `and`, each part that they decide is True;
+-- and what may has values
 -- that hold each run of three octets that the filter's substrings items ask for.
 pub record ArePlansFor (s : SchemaModel) (ix : List Kinds) (t : Tree) (must may : Plan) : Type 0 where
   pub sound : OfEach s ix must (λ is_there name e. is_there ≡ true → is_match s t name e ≡ true)

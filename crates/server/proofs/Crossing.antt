@@ -34,26 +34,78 @@ journal_send = files.journal_send
 
 -- a look that finds nothing holds nothing
 pub no_reads_send : (T : RattleType) → IsSend (NoReads.the_row T)
-no_reads_send T = recorded_send (NoReads.the_field T).row _ _ (NoReads.the_type T).to_one (struct_send (Declared.shape (NoReads.the_type T)) (phantom.the_field_send T, tt))
+no_reads_send T = recorded_send (NoReads.the_field T).row _ _ (NoReads.the_type T).to_one
+    (struct_send (Declared.shape (NoReads.the_type T)) (phantom.the_field_send T, tt))
 
 global_sync : IsSync Global.the_field.row
 global_sync = search (crosses, sendable) depth 20
 
 module _ (I : RattleType) (i : NodeIdentity.Ghosts I.Denot) where
-  pub way_send : (a b c : NamedLft) (R : RattleType) → IsSync R → IsSend (NodeGate.the_row a b R FileDevice.the_row JournalFile.the_row I (PeerQueuesAt.the_row c R) DeviceRule.ghosts JournalRule.ghosts i)
+  pub way_send : (a b c : NamedLft) (R : RattleType) → IsSync R →
+      IsSend (NodeGate.the_row a b R FileDevice.the_row JournalFile.the_row I (PeerQueuesAt.the_row c R)
+      DeviceRule.ghosts JournalRule.ghosts i)
   way_send a b c R y =
       let peer_queues : IsSend (PeerQueuesAt.the_row c R) = search (y, peer_queues_at.the_send) depth 5 in
-      gate_send FileDevice.the_row JournalFile.the_row I DeviceRule.ghosts JournalRule.ghosts i a b R _ y device_send journal_send peer_queues
+      gate_send FileDevice.the_row JournalFile.the_row I DeviceRule.ghosts JournalRule.ghosts i a b R _ y device_send
+      journal_send peer_queues
 
-  pub shared_sync : (a : NamedLft) (R : RattleType) → IsSync R → IsSync (SharedNode.the_row a R FileDevice.the_row JournalFile.the_row I DeviceRule.ghosts JournalRule.ghosts i)
-  shared_sync a R y = running_sync FileDevice.the_row JournalFile.the_row I DeviceRule.ghosts JournalRule.ghosts i a R y device_send journal_send
+  pub shared_sync : (a : NamedLft) (R : RattleType) → IsSync R →
+      IsSync (SharedNode.the_row a R FileDevice.the_row JournalFile.the_row I DeviceRule.ghosts JournalRule.ghosts i)
+  shared_sync a R y = running_sync FileDevice.the_row JournalFile.the_row I DeviceRule.ghosts JournalRule.ghosts i a R
+      y device_send journal_send
 
   pub clockwork_sync : (a b : NamedLft) (R : RattleType) → IsSync R → IsSync (TimedNode.the_row a b R I i)
   clockwork_sync a b R y =
-      let running : IsSync (SharedNode.the_row b R FileDevice.the_row JournalFile.the_row I DeviceRule.ghosts JournalRule.ghosts i) = shared_sync b R y in
+      let running : IsSync (SharedNode.the_row b R FileDevice.the_row JournalFile.the_row I DeviceRule.ghosts
+      JournalRule.ghosts i) = shared_sync b R y in
       let peer_queues : IsSync (PeerQueues.the_row a R) = search (y, peer_queues_laws.the_sync) depth 5 in
       recorded_sync (TimedNode.the_field a b R I i).row _ _ (TimedNode.the_type a b R I i).to_one
       (struct_sync (Declared.shape (TimedNode.the_type a b R I i)) (
         shr_sync _ _ R y,
-        (global_sync, (search (running, sendable) depth 10, (search (peer_queues, sendable) depth 10, (search (shared_parts.the_sync, sendable) depth 10, (search (times.the_field_sync, sendable) depth 10, (search (instant.the_field_sync, sendable) depth 10, (search (crosses, sendable) depth 20, (search (crosses, sendable) depth 20, (search (crosses, sendable) depth 20, (search (crosses, sendable) depth 20, (search (guard.the_sync, sendable) depth 10, (search (files.guard_sync, sendable) depth 20, (search (crosses, sendable) depth 20, (search (crosses, sendable) depth 20, (search (crosses, sendable) depth 20, (search (crosses, sendable) depth 20, tt)))))))))))))))),
+        (
+          global_sync,
+          (
+            search (running, sendable) depth 10,
+            (
+              search (peer_queues, sendable) depth 10,
+              (
+                search (shared_parts.the_sync, sendable) depth 10,
+                (
+                  search (times.the_field_sync, sendable) depth 10,
+                  (
+                    search (instant.the_field_sync, sendable) depth 10,
+                    (
+                      search (crosses, sendable) depth 20,
+                      (
+                        search (crosses, sendable) depth 20,
+                        (
+                          search (crosses, sendable) depth 20,
+                          (
+                            search (crosses, sendable) depth 20,
+                            (
+                              search (guard.the_sync, sendable) depth 10,
+                              (
+                                search (files.guard_sync, sendable) depth 20,
+                                (
+                                  search (crosses, sendable) depth 20,
+                                  (
+                                    search (crosses, sendable) depth 20,
+                                    (
+                                      search (crosses, sendable) depth 20,
+                                      (search (crosses, sendable) depth 20, tt),
+                                    ),
+                                  ),
+                                ),
+                              ),
+                            ),
+                          ),
+                        ),
+                      ),
+                    ),
+                  ),
+                ),
+              ),
+            ),
+          ),
+        ),
       ))

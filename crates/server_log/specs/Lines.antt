@@ -42,11 +42,14 @@ EndsWith text notes = (before : List NoteValue) × (times : ℕ) × (notes ≡ b
 -- a line is dropped: it is counted with those that were dropped just before it, or is the first
 pub data HasDropped (old new : List NoteValue) : Type 0 where
   first : new ≡ old ++ dropped 1 ∷ [] → HasDropped old new
-  further : (before : List NoteValue) (count : ℕ) → old ≡ before ++ dropped count ∷ [] → new ≡ before ++ dropped (one_more count) ∷ [] → HasDropped old new
+  further : (before : List NoteValue) (count : ℕ) → old ≡ before ++ dropped count ∷ [] →
+      new ≡ before ++ dropped (one_more count) ∷ [] → HasDropped old new
 
--- A line is said: one like the last is counted with it; any other is kept where there is a place for it, and dropped where there is none.
+-- A line is said: one like the last is counted with it; any other is kept where there is a place for it, and dropped
+-- where there is none.
 pub data HasSaid (most : ℕ) (text : List ℕ) (old new : List NoteValue) : Type 0 where
-  again : (before : List NoteValue) (times : ℕ) → old ≡ before ++ line text times ∷ [] → new ≡ before ++ line text (one_more times) ∷ [] →
+  again : (before : List NoteValue) (times : ℕ) → old ≡ before ++ line text times ∷ [] → new ≡ before ++ line text
+      (one_more times) ∷ [] →
       HasSaid most text old new
   kept : (EndsWith text old → ⊥) → length old < most → new ≡ old ++ line text 1 ∷ [] → HasSaid most text old new
   no_place : (EndsWith text old → ⊥) → most ≤ length old → HasDropped old new → HasSaid most text old new
@@ -59,9 +62,11 @@ StandsFor (dropped count) said = count ≡ counted (length said)
 -- notes stand for these lines, all of them, in the order in which they were said
 abbrev pub StandFor : List NoteValue → List (List ℕ) → Type 0
 StandFor [] said = said ≡ []
-StandFor (n ∷ ns) said = (front : List (List ℕ)) × (rest : List (List ℕ)) × (said ≡ front ++ rest) × StandsFor n front × StandFor ns rest
+StandFor (n ∷ ns) said = (front : List (List ℕ)) × (rest : List (List ℕ)) × (said ≡ front ++ rest) × StandsFor n front
+    × StandFor ns rest
 
 -- No line goes uncounted: where notes stand for all lines that were said, they do so after one more.
 abbrev pub CountsAll : Type 0
-CountsAll = (most : ℕ) (text : List ℕ) (old new : List NoteValue) (said : List (List ℕ)) → HasSaid most text old new → StandFor old said →
+CountsAll = (most : ℕ) (text : List ℕ) (old new : List NoteValue) (said : List (List ℕ)) → HasSaid most text old new →
+    StandFor old said →
     StandFor new (said ++ text ∷ [])

@@ -31,7 +31,8 @@ met_rest : {T : Type 0} (xs ys : List (Exchange T)) → AreMet (xs ++ ys) → Ar
 met_rest [] ys h = h
 met_rest (x ∷ xs) ys h = met_rest xs ys h.1
 
-rises_join : {T : Type 0} (seen : ℕ) (xs ys : List (Exchange T)) → Rises seen xs → Rises (seen_in seen xs) ys → Rises seen (xs ++ ys)
+rises_join : {T : Type 0} (seen : ℕ) (xs ys : List (Exchange T)) → Rises seen xs → Rises (seen_in seen xs) ys →
+    Rises seen (xs ++ ys)
 rises_join seen [] ys p q = q
 rises_join seen (x ∷ xs) ys p q = (p.0, rises_join (seen_with seen x) xs ys p.1 q)
 
@@ -40,11 +41,13 @@ abbrev floor_of_due : Due → ℕ → ℕ
 floor_of_due (at_once a) floor = a.state.floor
 floor_of_due (after_role r named) floor = floor
 
-due_by_keeps : (s : State) (id : ℕ) (r : RequestValue) (judgement : Result Named ℕ) → floor_of_due (due_by s id r judgement) s.floor ≡ s.floor
+due_by_keeps : (s : State) (id : ℕ) (r : RequestValue) (judgement : Result Named ℕ) →
+    floor_of_due (due_by s id r judgement) s.floor ≡ s.floor
 due_by_keeps s id r (Err code) = refl
 due_by_keeps s id r (Ok named) = refl
 
-due_unless_keeps : (s : State) (m : MessageValue) (r : RequestValue) (next : Option Next) → floor_of_due (due_unless s m r next) s.floor ≡ s.floor
+due_unless_keeps : (s : State) (m : MessageValue) (r : RequestValue) (next : Option Next) →
+    floor_of_due (due_unless s m r next) s.floor ≡ s.floor
 due_unless_keeps s m r (Some next) = refl
 due_unless_keeps s m r None = due_by_keeps s m.id r (judged (kind_of r) m.controls)
 
@@ -66,7 +69,8 @@ AsksFrom floor (an_update client number u) = Unit {0}
 names_from : (floor number : ℕ) → floor ≤ max floor number
 names_from floor number = omega arith
 
-asks_as : (c : ConfigValue) (s : State) (p : Pending) (u : OpValue) (named : Option (ℕ × ℕ)) → AsksFrom s.floor (update_as c s p u named)
+asks_as : (c : ConfigValue) (s : State) (p : Pending) (u : OpValue) (named : Option (ℕ × ℕ)) →
+    AsksFrom s.floor (update_as c s p u named)
 asks_as c s p u (Some named) = tt
 asks_as c s p u None = by (nat_lt s.requests greatest)
   where
@@ -74,21 +78,25 @@ asks_as c s p u None = by (nat_lt s.requests greatest)
     by true = tt
     by false = refl
 
-asks_at : (c : ConfigValue) (s : State) (p : Pending) (u : OpValue) (role : RoleValue) → AsksFrom s.floor (update_at c s p u role)
+asks_at : (c : ConfigValue) (s : State) (p : Pending) (u : OpValue) (role : RoleValue) →
+    AsksFrom s.floor (update_at c s p u role)
 asks_at c s p u primary = asks_as c s p u p.named.request
 asks_at c s p u (backup uri) = refl
 asks_at c s p u changing = refl
 asks_at c s p u recovering = refl
 
-asks_by : (i : Identity) (c : ConfigValue) (s : State) (p : Pending) (u : OpValue) (role : RoleValue) → AsksFrom s.floor (update_by i c s p u role)
+asks_by : (i : Identity) (c : ConfigValue) (s : State) (p : Pending) (u : OpValue) (role : RoleValue) →
+    AsksFrom s.floor (update_by i c s p u role)
 asks_by Anonymous c s p u role = refl
 asks_by Manager c s p u role = asks_at c s p u role
 
-asks_update : (c : ConfigValue) (s : State) (p : Pending) (role : RoleValue) (u : Option OpValue) → AsksFrom s.floor (asked_of_update c s p role u)
+asks_update : (c : ConfigValue) (s : State) (p : Pending) (role : RoleValue) (u : Option OpValue) →
+    AsksFrom s.floor (asked_of_update c s p role u)
 asks_update c s p role None = refl
 asks_update c s p role (Some u) = asks_by s.identity c s p u role
 
-asks_of : (c : ConfigValue) (s : State) (p : Pending) (r : RequestValue) (role : RoleValue) → AsksFrom s.floor (asked_of c s p r role)
+asks_of : (c : ConfigValue) (s : State) (p : Pending) (r : RequestValue) (role : RoleValue) →
+    AsksFrom s.floor (asked_of c s p r role)
 asks_of c s p (bind b) role = refl
 asks_of c s p unbind role = refl
 asks_of c s p (search q) role = names_from s.floor (or_zero p.named.number)
@@ -100,7 +108,8 @@ asks_of c s p (compare q) role = names_from s.floor (or_zero p.named.number)
 asks_of c s p (abandon k) role = refl
 asks_of c s p (extended_request x) role = asks_update c s p role (update_of (extended_request x))
 
-asks_from : (c : ConfigValue) (s : State) (p : Pending) (r : RequestValue) (role : RoleValue) → AsksFrom s.floor (asked c s p r role)
+asks_from : (c : ConfigValue) (s : State) (p : Pending) (r : RequestValue) (role : RoleValue) →
+    AsksFrom s.floor (asked c s p r role)
 asks_from c s p r role = by (is_recovering role)
   where
     by : (b : Bool) → AsksFrom s.floor (cond b (refusal s p 52) (asked_of c s p r role))
@@ -128,9 +137,13 @@ record Keeps {T : Type 0} (floor after : ℕ) (xs : List (Exchange T)) : Type 0 
   kept : after ≡ seen_in floor xs
   rises : AreMet xs → Rises floor xs
 
-outcome_keeps : {T : Type 0} (s : State) (id : ℕ) (answering : Answering) (named : Named) (question : Asked) (xs : List (Exchange T)) (a : Reaction) →
+outcome_keeps : {T : Type 0} (s : State) (id : ℕ) (answering : Answering) (named : Named) (question : Asked)
+    (xs : List (Exchange T)) (a : Reaction) →
     AsksFrom s.floor question → Outcome s id answering named question xs a → Keeps s.floor a.state.floor xs
-outcome_keeps s id answering named question xs a from (reacts is) = record { kept = subst (AsksFrom s.floor) is from; rises = λ _. tt }
+outcome_keeps s id answering named question xs a from (reacts is) = record {
+  kept = subst (AsksFrom s.floor) is from;
+  rises = λ _. tt;
+}
 outcome_keeps s id answering named question xs a from (searches number q look is) = record {
   kept = refl;
   rises = λ met. (from_below s.floor number look (subst (AsksFrom s.floor) is from) met.0, tt);
@@ -144,20 +157,25 @@ outcome_keeps s id answering named question xs a from (updates client number u e
   rises = λ met. (tt, tt);
 }
 
-inquiry_keeps : {T : Type 0} (c : ConfigValue) (s : State) (id : ℕ) (r : RequestValue) (named : Named) (xs : List (Exchange T)) (a : Reaction) →
+inquiry_keeps : {T : Type 0} (c : ConfigValue) (s : State) (id : ℕ) (r : RequestValue) (named : Named)
+    (xs : List (Exchange T)) (a : Reaction) →
     Inquiry c s id r named xs a → Keeps s.floor a.state.floor xs
 inquiry_keeps c s id r named xs a (asks {xs = later} role told outcome) =
-    let k = outcome_keeps s id (answering_of r) named (asked c s (pending_of id r named) r role) later a (asks_from c s (pending_of id r named) r role) outcome in
+    let k = outcome_keeps s id (answering_of r) named (asked c s (pending_of id r named) r role) later a
+    (asks_from c s (pending_of id r named) r role) outcome in
     record { kept = k.kept; rises = λ met. (tt, (tt, k.rises met.1.1)) }
 
-turn_keeps : {T : Type 0} (c : ConfigValue) (s : State) (m : MessageValue) (xs : List (Exchange T)) (a : Reaction) → Turn c s m xs a → Keeps s.floor a.state.floor xs
+turn_keeps : {T : Type 0} (c : ConfigValue) (s : State) (m : MessageValue) (xs : List (Exchange T)) (a : Reaction) →
+    Turn c s m xs a → Keeps s.floor a.state.floor xs
 turn_keeps c s m xs a (answers is) = record { kept = at_once_keeps s m a is; rises = λ _. tt }
 turn_keeps c s m xs a (inquires r named is inquiry) = inquiry_keeps c s m.id r named xs a inquiry
 
-session_keeps : {T : Type 0} (c : ConfigValue) (s t : State) (ms : List MessageValue) (xs : List (Exchange T)) (rs : List MessageValue) (next : Next) →
+session_keeps : {T : Type 0} (c : ConfigValue) (s t : State) (ms : List MessageValue) (xs : List (Exchange T))
+    (rs : List MessageValue) (next : Next) →
     Session c s ms xs t rs next → Keeps s.floor t.floor xs
 session_keeps c s t ms xs rs next ends = record { kept = refl; rises = λ _. tt }
-session_keeps c s t ms xs rs next (goes_on {m = m} {ms = more} {xs = first} {ys = later} {a = a} {rs = said} turn goes rest) =
+session_keeps c s t ms xs rs next (goes_on {m = m} {ms = more} {xs = first} {ys = later} {a = a} {rs = said} turn goes
+    rest) =
     let k = turn_keeps c s m first a turn in
     let l = session_keeps c a.state t more later said next rest in
     record {

@@ -30,20 +30,24 @@ on_err (Ok x) h = tt
 on_err (Err e) h = h
 
 -- what is said of a reaction is all that is left to do, where the state is the one after it
-pub said_is_done : (a : Reaction) (t : State) (result : Result Answered AnswerError) → t ≡ a.state → AreSaid a.responses a.next result → IsDone a t result
+pub said_is_done : (a : Reaction) (t : State) (result : Result Answered AnswerError) → t ≡ a.state →
+    AreSaid a.responses a.next result → IsDone a t result
 said_is_done a t result is said = record {
   state = on_ok result is;
   left = on_err result (inl is);
   said = said;
 }
 
-along_more : {D T : Type 0} (allows : D → Exchange T → D → Type 0) (d e f : D) (xs ys : List (Exchange T)) → Along allows d xs e → Along allows e ys f → Along allows d (xs ++ ys) f
+along_more : {D T : Type 0} (allows : D → Exchange T → D → Type 0) (d e f : D) (xs ys : List (Exchange T)) →
+    Along allows d xs e → Along allows e ys f → Along allows d (xs ++ ys) f
 along_more allows d e f xs ys ends second = second
-along_more allows d e f xs ys (goes {e = m} {xs = later} x rest) second = goes x (along_more allows m e f later ys rest second)
+along_more allows d e f xs ys (goes {e = m} {xs = later} x rest) second =
+    goes x (along_more allows m e f later ys rest second)
 
 module _ {D T : Type 0} (allows : D → Exchange T → D → Type 0) (t : State) (result : Result Answered AnswerError) where
   -- nothing is asked
-  pub reacted : (d : D) (s : State) (id : ℕ) (answering : Answering) (named : Named) (a : Reaction) → IsDone a t result →
+  pub reacted : (d : D) (s : State) (id : ℕ) (answering : Answering) (named : Named) (a : Reaction) →
+      IsDone a t result →
       HasTaken allows d d (Outcome s id answering named (nothing a)) t result
   reacted d s id answering named a h = record {
     talk = [];
@@ -54,8 +58,10 @@ module _ {D T : Type 0} (allows : D → Exchange T → D → Type 0) (t : State)
   }
 
   -- one question
-  pub one_search : (d e : D) (s : State) (id : ℕ) (answering : Answering) (named : Named) (number : ℕ) (q : SearchRequestValue) (look : Looked Answer) →
-      allows d (searched number q look) e → t ≡ reading_from s (number_seen look) → AreSaid (search_messages id named.number look) GoesOn result →
+  pub one_search : (d e : D) (s : State) (id : ℕ) (answering : Answering) (named : Named) (number : ℕ)
+      (q : SearchRequestValue) (look : Looked Answer) →
+      allows d (searched number q look) e → t ≡ reading_from s (number_seen look) →
+      AreSaid (search_messages id named.number look) GoesOn result →
       HasTaken allows d e (Outcome s id answering named (a_search number q)) t result
   one_search d e s id answering named number q look h is said = record {
     talk = searched number q look ∷ [];
@@ -65,8 +71,10 @@ module _ {D T : Type 0} (allows : D → Exchange T → D → Type 0) (t : State)
     done = said_is_done (after_search s id named look) t result is said;
   }
 
-  pub one_compare : (d e : D) (s : State) (id : ℕ) (answering : Answering) (named : Named) (number : ℕ) (q : CompareRequestValue) (look : Looked ReplyModel) →
-      allows d (compared number q look) e → t ≡ reading_from s (number_seen look) → AreSaid (compare_messages id named.number look) GoesOn result →
+  pub one_compare : (d e : D) (s : State) (id : ℕ) (answering : Answering) (named : Named) (number : ℕ)
+      (q : CompareRequestValue) (look : Looked ReplyModel) →
+      allows d (compared number q look) e → t ≡ reading_from s (number_seen look) →
+      AreSaid (compare_messages id named.number look) GoesOn result →
       HasTaken allows d e (Outcome s id answering named (a_compare number q)) t result
   one_compare d e s id answering named number q look h is said = record {
     talk = compared number q look ∷ [];
@@ -76,8 +84,10 @@ module _ {D T : Type 0} (allows : D → Exchange T → D → Type 0) (t : State)
     done = said_is_done (after_compare s id named look) t result is said;
   }
 
-  pub one_update : (d e : D) (s : State) (id : ℕ) (answering : Answering) (named : Named) (client : Client) (number : ℕ) (u : OpValue) (ended : EndedValue) →
-      allows d (updated client number u ended) e → IsDone (after_update (asked_state s named) id answering named ended) t result →
+  pub one_update : (d e : D) (s : State) (id : ℕ) (answering : Answering) (named : Named) (client : Client)
+      (number : ℕ) (u : OpValue) (ended : EndedValue) →
+      allows d (updated client number u ended) e → IsDone (after_update (asked_state s named) id answering named
+      ended) t result →
       HasTaken allows d e (Outcome s id answering named (an_update client number u)) t result
   one_update d e s id answering named client number u ended h done = record {
     talk = updated client number u ended ∷ [];
@@ -88,11 +98,14 @@ module _ {D T : Type 0} (allows : D → Exchange T → D → Type 0) (t : State)
   }
 
   -- the role first
-  pub role_then : (d e f : D) (c : ConfigValue) (s : State) (p : Pending) (r : RequestValue) (role : RoleValue) (told : T) →
-      p.answering ≡ answering_of r → Along allows d (asked_role role told ∷ learned told ∷ []) e → HasTaken allows e f (OutcomeOf s p (asked c s p r role)) t result →
+  pub role_then : (d e f : D) (c : ConfigValue) (s : State) (p : Pending) (r : RequestValue) (role : RoleValue)
+      (told : T) →
+      p.answering ≡ answering_of r → Along allows d (asked_role role told ∷ learned told ∷ []) e →
+      HasTaken allows e f (OutcomeOf s p (asked c s p r role)) t result →
       HasTaken allows d f (Inquiry c s p.id r p.named) t result
   role_then d e f c s p r role told is front h =
-      let g = subst (λ (k : Answering). HasTaken allows e f (Outcome s p.id k p.named (asked c s (record p { answering = k }) r role)) t result) is h in
+      let g = subst (λ (k : Answering). HasTaken allows e f
+      (Outcome s p.id k p.named (asked c s (record p { answering = k }) r role)) t result) is h in
       record {
         talk = asked_role role told ∷ learned told ∷ g.talk;
         reaction = g.reaction;
@@ -102,7 +115,8 @@ module _ {D T : Type 0} (allows : D → Exchange T → D → Type 0) (t : State)
       }
 
   -- a message that is a request, and passed its controls
-  pub inquired : (d e : D) (c : ConfigValue) (s : State) (p : Pending) (r : RequestValue) (m : MessageValue) → IsPending p r m → HasTaken allows d e (Inquiry c s p.id r p.named) t result →
+  pub inquired : (d e : D) (c : ConfigValue) (s : State) (p : Pending) (r : RequestValue) (m : MessageValue) →
+      IsPending p r m → HasTaken allows d e (Inquiry c s p.id r p.named) t result →
       HasTaken allows d e (Turn c s m) t result
   inquired d e c s p r m pending h =
       let g = subst (λ (i : ℕ). HasTaken allows d e (Inquiry c s i r p.named) t result) pending.id_is h in
@@ -115,7 +129,8 @@ module _ {D T : Type 0} (allows : D → Exchange T → D → Type 0) (t : State)
       }
 
   -- any other message
-  pub answered : (d : D) (c : ConfigValue) (s : State) (m : MessageValue) (a : Reaction) → due s m ≡ at_once a → IsDone a t result → HasTaken allows d d (Turn c s m) t result
+  pub answered : (d : D) (c : ConfigValue) (s : State) (m : MessageValue) (a : Reaction) → due s m ≡ at_once a →
+      IsDone a t result → HasTaken allows d d (Turn c s m) t result
   answered d c s m a is h = record {
     talk = [];
     reaction = a;

@@ -142,7 +142,8 @@ refusal s p code = nothing (refused_with s p.id p.answering code)
 abbrev pub bound_reaction : State → ℕ → Bound → Reaction
 bound_reaction s id b = says (record s { identity = b.identity }) (code_message id Bind b.code)
 
--- the client and the number of an update: those that its control names, or the session's own client and its next number; other (80), once
+-- the client and the number of an update: those that its control names, or the session's own client and its next
+-- number; other (80), once
 -- those are used up
 abbrev pub update_as : ConfigValue → State → Pending → OpValue → Option (ℕ × ℕ) → Asked
 update_as c s p u (Some named) = an_update (named_client named.0) named.1 u
@@ -202,13 +203,24 @@ reading_from s number = record s { floor = max s.floor number }
 
 -- what a search comes to: from where it was answered the session reads on
 abbrev pub after_search : State → ℕ → Named → Looked Answer → Reaction
-after_search s id named look = record { state = reading_from s (number_seen look); responses = search_messages id named.number look; next = GoesOn }
+after_search s id named look = record {
+  state = reading_from s (number_seen look);
+  responses = search_messages id
+      named.number look;
+  next = GoesOn;
+}
 
 -- what a compare comes to: from where it was answered the session reads on
 abbrev pub after_compare : State → ℕ → Named → Looked ReplyModel → Reaction
-after_compare s id named look = record { state = reading_from s (number_seen look); responses = compare_messages id named.number look; next = GoesOn }
+after_compare s id named look = record {
+  state = reading_from s (number_seen look);
+  responses = compare_messages id
+      named.number look;
+  next = GoesOn;
+}
 
--- the number of the last request of the session's own client, where an update was asked: its own, or one that a control names
+-- the number of the last request of the session's own client, where an update was asked: its own, or one that a control
+-- names
 abbrev pub requests_after : ℕ → Option (ℕ × ℕ) → ℕ
 requests_after n None = n + 1
 requests_after n (Some named) = n
@@ -217,7 +229,8 @@ requests_after n (Some named) = n
 abbrev pub asked_state : State → Named → State
 asked_state s named = record s { requests = requests_after s.requests named.request }
 
--- What an update comes to: its reply, with its number where the request named one; unwillingToPerform (53) where the client has made a later
+-- What an update comes to: its reply, with its number where the request named one; unwillingToPerform (53) where the
+-- client has made a later
 -- request, other (80) where it isn't known what became of it, and without memory.
 abbrev pub after_update : State → ℕ → Answering → Named → EndedValue → Reaction
 after_update s id answering named (done number reply) =

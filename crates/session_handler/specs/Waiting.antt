@@ -27,4 +27,5 @@ may_update s m = is_manager s.identity && is_update m.controls m.op
 
 -- No other message asks for one.
 abbrev pub OthersDoNotUpdate : Type 0 → Type 0
-OthersDoNotUpdate T = (c : ConfigValue) (s : State) (m : MessageValue) (talk : List (Exchange T)) (a : Reaction) → Turn c s m talk a → may_update s m ≡ false → updates_in talk ≡ 0
+OthersDoNotUpdate T = (c : ConfigValue) (s : State) (m : MessageValue) (talk : List (Exchange T)) (a : Reaction) →
+    Turn c s m talk a → may_update s m ≡ false → updates_in talk ≡ 0

@@ -26,7 +26,8 @@ with_sum (n ∷ ns) (suc p) held h =
 changed_sum : (used posted held : ℕ) → posted ≤ used → changed used (change posted held) + posted ≡ used + held
 changed_sum used posted held h = by (nat_lt posted held) (nat_lt held posted) refl refl
   where
-    by : (more less : Bool) → nat_lt posted held ≡ more → nat_lt held posted ≡ less → changed used (cond more (Adds (held - posted)) (cond less (Gives (posted - held)) Stays)) + posted ≡ used + held
+    by : (more less : Bool) → nat_lt posted held ≡ more → nat_lt held posted ≡ less →
+        changed used (cond more (Adds (held - posted)) (cond less (Gives (posted - held)) Stays)) + posted ≡ used + held
     by true less e f = grind (arith, nat_tests, e)
     by false true e f = grind (arith, nat_tests, e, f)
     by false false e f = grind (arith, nat_tests, e, f)
@@ -38,14 +39,18 @@ IsSum s = s.used ≡ all s.posted
 after_sum : (e : Event) (s : Sum) → e.place < length s.posted → IsSum s → IsSum (after e s)
 after_sum e s within h =
     let less : at s.posted e.place ≤ s.used = rw h (at_within s.posted e.place) in
-    let one : changed s.used (change (at s.posted e.place) e.held) + at s.posted e.place ≡ s.used + e.held = changed_sum s.used (at s.posted e.place) e.held less in
-    let two : all (with s.posted e.place e.held) + at s.posted e.place ≡ all s.posted + e.held = with_sum s.posted e.place e.held within in
+    let one : changed s.used (change (at s.posted e.place) e.held) + at s.posted e.place ≡ s.used + e.held =
+    changed_sum s.used (at s.posted e.place) e.held less in
+    let two : all (with s.posted e.place e.held) + at s.posted e.place ≡ all s.posted + e.held = with_sum s.posted
+    e.place e.held within in
     omega (arith, one, two, h)
 
-all_sum : (es : List Event) (s : Sum) (size : ℕ) → length s.posted ≡ size → AreWithin es size → IsSum s → IsSum (after_all es s)
+all_sum : (es : List Event) (s : Sum) (size : ℕ) → length s.posted ≡ size → AreWithin es size → IsSum s →
+    IsSum (after_all es s)
 all_sum [] s size same within h = h
 all_sum (e ∷ es) s size same within h =
-    all_sum es (after e s) size (with_length s.posted e.place e.held ∙ same) within.1 (after_sum e s (rw same within.0) h)
+    all_sum es (after e s) size (with_length s.posted e.place e.held ∙ same) within.1
+    (after_sum e s (rw same within.0) h)
 
 nothing_length : (size : ℕ) → length (nothing size) ≡ size
 nothing_length zero = refl

@@ -1,4 +1,5 @@
--- What sessions at their places hold. A list by place comes in, with a session that wants more; whose session is ended comes out.
+-- What sessions at their places hold. A list by place comes in, with a session that wants more; whose session is ended
+-- comes out.
 use Rattle.std.specs.Prelude.{◌≡◌, ◌≤◌, ◌<◌, ◌+◌, ℕ, List, Option, None, Some, cond, nat_lt, slice_get}
 use Rattle.session_memory.specs.declared.holders.Holder.{Holder}
 
@@ -18,7 +19,8 @@ HoldsAt holders p h = slice_get holders p ≡ Some (Some h)
 abbrev pub AllHoldEnough : List (Option Holder) → Type 0
 AllHoldEnough holders = (p : ℕ) (h : Holder) → HoldsAt holders p h → 4096 ≤ h.octets
 
--- The session at a place is ended earlier than one that wants more, none is ended earlier still, and it holds 4 KiB at least.
+-- The session at a place is ended earlier than one that wants more, none is ended earlier still, and it holds 4 KiB at
+-- least.
 pub record IsRather (holders : List (Option Holder)) (own : Holder) (p : ℕ) : Type 0 where
   pub holder : Holder
   pub at : HoldsAt holders p holder

@@ -11,7 +11,8 @@ changed n (Gives less) = n - less
 
 -- the change that makes of what is posted what is held
 abbrev pub change : ℕ → ℕ → BudgetChange
-change posted held = cond (nat_lt posted held) (Adds (held - posted)) (cond (nat_lt held posted) (Gives (posted - held)) Stays)
+change posted held = cond (nat_lt posted held) (Adds (held - posted))
+    (cond (nat_lt held posted) (Gives (posted - held)) Stays)
 
 -- the sum of all
 abbrev pub all : List ℕ → ℕ
@@ -42,7 +43,11 @@ pub record Event : Type 0 where
 
 -- the sum changes by the difference, and so much is posted then
 abbrev pub after : Event → Sum → Sum
-after e s = record { used = changed s.used (change (at s.posted e.place) e.held); posted = with s.posted e.place e.held }
+after e s = record {
+  used = changed s.used (change (at s.posted e.place) e.held);
+  posted = with s.posted e.place
+      e.held;
+}
 
 -- many do so, one after the other
 abbrev pub after_all : List Event → Sum → Sum

@@ -1,4 +1,5 @@
--- Messages of one session that one directory answers, one after the other. What was answered so far comes in, with one more.
+-- Messages of one session that one directory answers, one after the other. What was answered so far comes in, with one
+-- more.
 use Rattle.std.proofs.Common.{◌≡◌, ℕ, zero, suc, ◌+◌, ◌≤◌, [], drop, Bool, true, false, refl, sym, ap, subst, ◌∙◌, arith}
 use Rattle.std.specs.Bool.{OnTrue, OnFalse}
 use Rattle.client_link.specs.directory_api.Talk.{Exchange}
@@ -13,11 +14,18 @@ module _ {D T : Type 0} (allows : D → Exchange T → D → Type 0) (c : Config
   pub answers_none : (v : ConversationValue) (d : D) → AnswersSome allows c v v d d 0
   answers_none v d = record { count = 0; in_turn = turns.none; at_most = omega arith }
 
-  pub answers_more : (v w x : ConversationValue) (d e f : D) (n : ℕ) → AnswersSome allows c v w d e n → AnswersNext allows c w x e f → AnswersSome allows c v x d f (n + 1)
+  pub answers_more : (v w x : ConversationValue) (d e f : D) (n : ℕ) → AnswersSome allows c v w d e n →
+      AnswersNext allows c w x e f → AnswersSome allows c v x d f (n + 1)
   answers_more v w x d e f n some next =
-      let k = some.at_most in record { count = suc some.count; in_turn = turns.one_more some.in_turn next; at_most = omega arith }
+      let k = some.at_most in record {
+        count = suc some.count;
+        in_turn = turns.one_more some.in_turn next;
+        at_most =
+            omega arith;
+      }
 
-  pub answers_up_to : (v w x : ConversationValue) (d e f : D) (n m : ℕ) → AnswersSome allows c v w d e n → x ≡ w → f ≡ e → n ≤ m → AnswersSome allows c v x d f m
+  pub answers_up_to : (v w x : ConversationValue) (d e f : D) (n m : ℕ) → AnswersSome allows c v w d e n → x ≡ w →
+      f ≡ e → n ≤ m → AnswersSome allows c v x d f m
   answers_up_to v w x d e f n m some same kept within =
       let k = some.at_most in
       record {
@@ -45,8 +53,10 @@ drop_none (suc n) = refl
 
 -- where nothing was unsent, nothing is left unsent
 pub none_left : (v w : ConversationValue) → HasSent v w → v.unsent ≡ [] → w.unsent ≡ []
-none_left v w sent none = ap (λ (x : ConversationValue). x.unsent) sent.sent ∙ ap (drop sent.count) none ∙ drop_none sent.count
+none_left v w sent none = ap (λ (x : ConversationValue). x.unsent) sent.sent ∙ ap (drop sent.count) none
+    ∙ drop_none sent.count
 
 -- what has something to write after a write had before
-pub had_to_write : (g h : PooledSession) → HasSent (talk g) (talk h) → h.is_stuck ≡ g.is_stuck → HasToWrite h → HasToWrite g
+pub had_to_write : (g h : PooledSession) → HasSent (talk g) (talk h) → h.is_stuck ≡ g.is_stuck → HasToWrite h →
+    HasToWrite g
 had_to_write g h sent same write none = sym same ∙ write (none_left (talk g) (talk h) sent none)

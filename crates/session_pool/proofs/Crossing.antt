@@ -1,4 +1,5 @@
--- What the threads of a pool share may cross threads. A pool holds sessions, these hold parsed messages, and those hold filters, which are trees.
+-- What the threads of a pool share may cross threads. A pool holds sessions, these hold parsed messages, and those hold
+-- filters, which are trees.
 use denote.RattleType.{RattleType}
 use denote.Ref.{NamedLft}
 use denote.Struct.Declared
@@ -32,10 +33,27 @@ framer_send : IsSend Framer.the_field.row
 framer_send = search (octets.the_send, filter.crosses, crosses, sendable) depth 60 fits 20000
 
 session_send : IsSend PooledSession.the_row
-session_send = search (framer_send, octets.the_send, stream.the_field_send, instant.the_field_send, duration.the_field_send, crosses, sendable) depth 60 fits 20000
+session_send = search (
+  framer_send,
+  octets.the_send,
+  stream.the_field_send,
+  instant.the_field_send,
+  duration.the_field_send,
+  crosses,
+  sendable,
+) depth 60 fits 20000
 
 table_send : IsSend Table.the_row
-table_send = search (session_send, book.the_send, turns.the_send, holders.the_send, lead.the_send, instant.the_send, crosses, sendable) depth 60 fits 20000
+table_send = search (
+  session_send,
+  book.the_send,
+  turns.the_send,
+  holders.the_send,
+  lead.the_send,
+  instant.the_send,
+  crosses,
+  sendable,
+) depth 60 fits 20000
 
 -- A pool is shared by its threads where its runtime and whoever is told of its sessions are.
 pub pool_sync : (a : NamedLft) (R T : RattleType) → IsSync R → IsSync T → IsSync (SessionPool.the_row a R T)

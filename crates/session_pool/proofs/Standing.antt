@@ -1,4 +1,5 @@
--- Where sessions are, and the lists of places beside that, after a change at one place. Facts on lists come in and go out.
+-- Where sessions are, and the lists of places beside that, after a change at one place. Facts on lists come in and go
+-- out.
 use Rattle.std.proofs.Common.{◌≡◌, ◌≢◌, ◌⊎◌, inl, inr, ℕ, zero, suc, ◌+◌, ◌<◌, ◌≤◌, List, [], ◌∷◌, ◌++◌, length, Bool, true, false, cond, Option, None, Some, refl, sym, ap, subst, ◌∙◌, arith}
 use Rattle.std.specs.Prelude.{slice_get, slice_set, replicate, nat_eq, nat_lt, eqb, leb}
 use Rattle.std.specs.List.{IsDistinct, AllByRecursion, list_any}
@@ -48,7 +49,8 @@ pub own_place : {G : Type 0} (place_of : G → ℕ) (g h : G) → Some (Some g) 
 own_place place_of g h e = cc
 
 -- and what has become of it there
-pub own_after : {G : Type 0} (place_of : G → ℕ) (x : Option G) (g h : G) (p : ℕ) → x ≡ Some g → place_of g ≡ p → Some x ≡ Some (Some h) → place_of h ≡ p
+pub own_after : {G : Type 0} (place_of : G → ℕ) (x : Option G) (g h : G) (p : ℕ) → x ≡ Some g → place_of g ≡ p →
+    Some x ≡ Some (Some h) → place_of h ≡ p
 own_after place_of x g h p e f k = cc
 
 -- what holds at each place of a list holds after one place is set
@@ -57,41 +59,52 @@ pub set_each : {X : Type 0} (P : ℕ → Option X → Type 0) (xs : List X) (p :
 set_each P xs p x within here each q = by (eqb_tells q p)
   where
     by : ((nat_eq q p ≡ true) × (q ≡ p)) ⊎ ((nat_eq q p ≡ false) × (q ≢ p)) → P q (slice_get (slice_set xs p x) q)
-    by (inl e) = subst (λ (r : ℕ). P r (slice_get (slice_set xs p x) r)) (sym e.1) (subst (P p) (sym (get_same xs p x within)) here)
+    by (inl e) = subst (λ (r : ℕ). P r (slice_get (slice_set xs p x) r)) (sym e.1)
+        (subst (P p) (sym (get_same xs p x within)) here)
     by (inr e) = subst (P q) (sym (get_other xs p q x e.1)) (each q)
 
 -- the same of two lists
-pub set_both : {X Y : Type 0} (P : ℕ → Option X → Option Y → Type 0) (xs : List X) (ys : List Y) (p : ℕ) (x : X) (y : Y) → p < length xs → p < length ys → P p (Some x) (Some y) →
-    ((q : ℕ) → P q (slice_get xs q) (slice_get ys q)) → (q : ℕ) → P q (slice_get (slice_set xs p x) q) (slice_get (slice_set ys p y) q)
+pub set_both : {X Y : Type 0} (P : ℕ → Option X → Option Y → Type 0) (xs : List X) (ys : List Y) (p : ℕ) (x : X)
+    (y : Y) → p < length xs → p < length ys → P p (Some x) (Some y) →
+    ((q : ℕ) → P q (slice_get xs q) (slice_get ys q)) → (q : ℕ) → P q (slice_get (slice_set xs p x) q)
+    (slice_get (slice_set ys p y) q)
 set_both P xs ys p x y within also here each q = by (eqb_tells q p)
   where
     at : P p (slice_get (slice_set xs p x) p) (slice_get (slice_set ys p y) p)
-    at = subst (λ (g : Option _). P p g (slice_get (slice_set ys p y) p)) (sym (get_same xs p x within)) (subst (P p (Some x)) (sym (get_same ys p y also)) here)
+    at = subst (λ (g : Option _). P p g (slice_get (slice_set ys p y) p)) (sym (get_same xs p x within))
+        (subst (P p (Some x)) (sym (get_same ys p y also)) here)
 
-    by : ((nat_eq q p ≡ true) × (q ≡ p)) ⊎ ((nat_eq q p ≡ false) × (q ≢ p)) → P q (slice_get (slice_set xs p x) q) (slice_get (slice_set ys p y) q)
+    by : ((nat_eq q p ≡ true) × (q ≡ p)) ⊎ ((nat_eq q p ≡ false) × (q ≢ p)) → P q (slice_get (slice_set xs p x) q)
+        (slice_get (slice_set ys p y) q)
     by (inl e) = subst (λ (r : ℕ). P r (slice_get (slice_set xs p x) r) (slice_get (slice_set ys p y) r)) (sym e.1) at
-    by (inr e) = subst (λ (g : Option _). P q g (slice_get (slice_set ys p y) q)) (sym (get_other xs p q x e.1)) (subst (P q (slice_get xs q)) (sym (get_other ys p q y e.1)) (each q))
+    by (inr e) = subst (λ (g : Option _). P q g (slice_get (slice_set ys p y) q)) (sym (get_other xs p q x e.1))
+        (subst (P q (slice_get xs q)) (sym (get_other ys p q y e.1)) (each q))
 
 -- and after one more is put behind the list
 pub push_each : {X : Type 0} (P : ℕ → Option X → Type 0) (xs : List X) (x : X) → P (length xs) (Some x) →
     ((q : ℕ) → P q (slice_get xs q)) → (q : ℕ) → P q (slice_get (xs ++ x ∷ []) q)
 push_each P xs x here each q = by (eqb_tells q (length xs))
   where
-    by : ((nat_eq q (length xs) ≡ true) × (q ≡ length xs)) ⊎ ((nat_eq q (length xs) ≡ false) × (q ≢ length xs)) → P q (slice_get (xs ++ x ∷ []) q)
-    by (inl e) = subst (λ (r : ℕ). P r (slice_get (xs ++ x ∷ []) r)) (sym e.1) (subst (P (length xs)) (sym (get_pushed xs x)) here)
+    by : ((nat_eq q (length xs) ≡ true) × (q ≡ length xs)) ⊎ ((nat_eq q (length xs) ≡ false) × (q ≢ length xs)) →
+        P q (slice_get (xs ++ x ∷ []) q)
+    by (inl e) = subst (λ (r : ℕ). P r (slice_get (xs ++ x ∷ []) r)) (sym e.1)
+        (subst (P (length xs)) (sym (get_pushed xs x)) here)
     by (inr e) = subst (P q) (sym (get_before xs q x e.1)) (each q)
 
 pub times_append : (q : ℕ) (xs ys : List ℕ) → times q (xs ++ ys) ≡ times q xs + times q ys
 times_append q [] ys = omega arith
 times_append q (x ∷ xs) ys = omega (arith, times_append q xs ys)
 
--- What is listed goes on to be what stands so, where a place is set, and a list has changed by what it stood and stands for.
-module _ (is : PlaceState → Bool) (stands : List PlaceState) (p : ℕ) (was now : PlaceState) (stood : slice_get stands p ≡ Some was) where
+-- What is listed goes on to be what stands so, where a place is set, and a list has changed by what it stood and stands
+-- for.
+module _ (is : PlaceState → Bool) (stands : List PlaceState) (p : ℕ) (was now : PlaceState)
+    (stood : slice_get stands p ≡ Some was) where
   within : p < length stands
   within = slice_get_within stands p was stood
 
   moves : (xs ys : List ℕ) → ((q : ℕ) → times q xs ≡ once is (slice_get stands q)) →
-      ((q : ℕ) → times q ys + cond (nat_eq q p) (cond (is was) 1 0) 0 ≡ times q xs + cond (nat_eq q p) (cond (is now) 1 0) 0) →
+      ((q : ℕ) → times q ys + cond (nat_eq q p) (cond (is was) 1 0) 0 ≡ times q xs + cond (nat_eq q p)
+      (cond (is now) 1 0) 0) →
       (q : ℕ) → times q ys ≡ once is (slice_get (slice_set stands p now) q)
   moves xs ys listed change q = by (eqb_tells q p)
     where
@@ -105,8 +118,10 @@ module _ (is : PlaceState → Bool) (stands : List PlaceState) (p : ℕ) (was no
               omega arith
           at (inr e) = absurd (e.1 refl)
 
-      by : ((nat_eq q p ≡ true) × (q ≡ p)) ⊎ ((nat_eq q p ≡ false) × (q ≢ p)) → times q ys ≡ once is (slice_get (slice_set stands p now) q)
-      by (inl e) = subst (λ (r : ℕ). times r ys ≡ once is (slice_get (slice_set stands p now) r)) (sym e.1) (here ∙ ap (once is) (sym (get_same stands p now within)))
+      by : ((nat_eq q p ≡ true) × (q ≡ p)) ⊎ ((nat_eq q p ≡ false) × (q ≢ p)) →
+          times q ys ≡ once is (slice_get (slice_set stands p now) q)
+      by (inl e) = subst (λ (r : ℕ). times r ys ≡ once is (slice_get (slice_set stands p now) r)) (sym e.1) (here
+          ∙ ap (once is) (sym (get_same stands p now within)))
       by (inr e) =
           let k : times q ys + 0 ≡ times q xs + 0 = rw e.0 at (change q) in
           let l = listed q in
@@ -114,8 +129,10 @@ module _ (is : PlaceState → Bool) (stands : List PlaceState) (p : ℕ) (was no
           j ∙ l ∙ ap (once is) (sym (get_other stands p q now e.1))
 
   -- it is in a list once more, of what it stands for now
-  pub joins_list : (xs ys : List ℕ) → is was ≡ false → is now ≡ true → ((q : ℕ) → times q ys ≡ times q xs + cond (nat_eq q p) 1 0) →
-      ((q : ℕ) → times q xs ≡ once is (slice_get stands q)) → (q : ℕ) → times q ys ≡ once is (slice_get (slice_set stands p now) q)
+  pub joins_list : (xs ys : List ℕ) → is was ≡ false → is now ≡ true →
+      ((q : ℕ) → times q ys ≡ times q xs + cond (nat_eq q p) 1 0) →
+      ((q : ℕ) → times q xs ≡ once is (slice_get stands q)) → (q : ℕ) →
+      times q ys ≡ once is (slice_get (slice_set stands p now) q)
   joins_list xs ys f g more listed = moves xs ys listed (λ q. rw (f, g) (change q (nat_eq q p) refl))
     where
       change : (q : ℕ) (b : Bool) → nat_eq q p ≡ b → times q ys + cond b 0 0 ≡ times q xs + cond b 1 0
@@ -123,8 +140,10 @@ module _ (is : PlaceState → Bool) (stands : List PlaceState) (p : ℕ) (was no
       change q false e = let t : times q ys ≡ times q xs + 0 = rw e at (more q) in omega arith
 
   -- or once less, of what it stood for
-  pub leaves_list : (xs ys : List ℕ) → is was ≡ true → is now ≡ false → ((q : ℕ) → times q ys + cond (nat_eq q p) 1 0 ≡ times q xs) →
-      ((q : ℕ) → times q xs ≡ once is (slice_get stands q)) → (q : ℕ) → times q ys ≡ once is (slice_get (slice_set stands p now) q)
+  pub leaves_list : (xs ys : List ℕ) → is was ≡ true → is now ≡ false →
+      ((q : ℕ) → times q ys + cond (nat_eq q p) 1 0 ≡ times q xs) →
+      ((q : ℕ) → times q xs ≡ once is (slice_get stands q)) → (q : ℕ) →
+      times q ys ≡ once is (slice_get (slice_set stands p now) q)
   leaves_list xs ys f g less listed = moves xs ys listed (λ q. rw (f, g) (change q (nat_eq q p) refl))
     where
       change : (q : ℕ) (b : Bool) → nat_eq q p ≡ b → times q ys + cond b 1 0 ≡ times q xs + cond b 0 0
@@ -146,7 +165,8 @@ module _ (is : PlaceState → Bool) (stands : List PlaceState) (p : ℕ) (was no
       change q false e = let t = times_append q xs (p ∷ []) in let u : times q (p ∷ []) ≡ 0 = rw e refl in omega arith
 
   -- it is taken off the front of the list of what it stood for
-  pub leaves : (xs : List ℕ) → is was ≡ true → is now ≡ false → ((q : ℕ) → times q (p ∷ xs) ≡ once is (slice_get stands q)) →
+  pub leaves : (xs : List ℕ) → is was ≡ true → is now ≡ false →
+      ((q : ℕ) → times q (p ∷ xs) ≡ once is (slice_get stands q)) →
       (q : ℕ) → times q xs ≡ once is (slice_get (slice_set stands p now) q)
   leaves xs f g listed = moves (p ∷ xs) xs listed (λ q. rw (f, g) (change q (nat_eq q p) refl))
     where
@@ -155,7 +175,8 @@ module _ (is : PlaceState → Bool) (stands : List PlaceState) (p : ℕ) (was no
       change q false e = let u : times q (p ∷ xs) ≡ 0 + times q xs = rw e refl in omega arith
 
   -- or off its back
-  pub leaves_back : (xs : List ℕ) → is was ≡ true → is now ≡ false → ((q : ℕ) → times q (xs ++ p ∷ []) ≡ once is (slice_get stands q)) →
+  pub leaves_back : (xs : List ℕ) → is was ≡ true → is now ≡ false →
+      ((q : ℕ) → times q (xs ++ p ∷ []) ≡ once is (slice_get stands q)) →
       (q : ℕ) → times q xs ≡ once is (slice_get (slice_set stands p now) q)
   leaves_back xs f g listed = moves (xs ++ p ∷ []) xs listed (λ q. rw (f, g) (change q (nat_eq q p) refl))
     where
@@ -202,7 +223,8 @@ stands_waiting (Some Ready) h = cc
 stands_waiting (Some Updates) h = cc
 
 -- one that isn't made is new
-pub stands_new : (stands : List PlaceState) (p : ℕ) → p < length stands → is_made (slice_get stands p) ≡ false → slice_get stands p ≡ Some New
+pub stands_new : (stands : List PlaceState) (p : ℕ) → p < length stands → is_made (slice_get stands p) ≡ false →
+    slice_get stands p ≡ Some New
 stands_new [] p h e = absurd (omega arith)
 stands_new (New ∷ ss) zero h e = refl
 stands_new (Free ∷ ss) zero h e = cc
@@ -225,23 +247,30 @@ first_listed p ps = rw (same_number p) (omega arith)
 pub last_listed : (p : ℕ) (ps : List ℕ) → 0 < times p (ps ++ p ∷ [])
 last_listed p ps = let t = times_append p ps (p ∷ []) in let f = first_listed p [] in omega arith
 
-pub last_is_free : (stands : List PlaceState) (free left : List ℕ) (p : ℕ) → free ≡ left ++ p ∷ [] → ((q : ℕ) → times q free ≡ once is_free (slice_get stands q)) → slice_get stands p ≡ Some Free
-last_is_free stands free left p e listed = let f : 0 < times p free = rw e (last_listed p left) in let l = listed p in stands_free (slice_get stands p) (omega arith)
+pub last_is_free : (stands : List PlaceState) (free left : List ℕ) (p : ℕ) → free ≡ left ++ p ∷ [] →
+    ((q : ℕ) → times q free ≡ once is_free (slice_get stands q)) → slice_get stands p ≡ Some Free
+last_is_free stands free left p e listed = let f : 0 < times p free = rw e (last_listed p left) in let l =
+    listed p in stands_free (slice_get stands p) (omega arith)
 
-pub listed_is_ready : (stands : List PlaceState) (ready : List ℕ) (p : ℕ) → 0 < times p ready → ((q : ℕ) → times q ready ≡ once is_ready (slice_get stands q)) → slice_get stands p ≡ Some Ready
+pub listed_is_ready : (stands : List PlaceState) (ready : List ℕ) (p : ℕ) → 0 < times p ready →
+    ((q : ℕ) → times q ready ≡ once is_ready (slice_get stands q)) → slice_get stands p ≡ Some Ready
 listed_is_ready stands ready p f listed = let l = listed p in stands_ready (slice_get stands p) (omega arith)
 
-pub first_is_updates : (stands : List PlaceState) (updates left : List ℕ) (p : ℕ) → updates ≡ p ∷ left → ((q : ℕ) → times q updates ≡ once is_updates (slice_get stands q)) → slice_get stands p ≡ Some Updates
-first_is_updates stands updates left p e listed = let f : 0 < times p updates = rw e (first_listed p left) in let l = listed p in stands_updates (slice_get stands p) (omega arith)
+pub first_is_updates : (stands : List PlaceState) (updates left : List ℕ) (p : ℕ) → updates ≡ p ∷ left →
+    ((q : ℕ) → times q updates ≡ once is_updates (slice_get stands q)) → slice_get stands p ≡ Some Updates
+first_is_updates stands updates left p e listed = let f : 0 < times p updates = rw e (first_listed p left) in let l =
+    listed p in stands_updates (slice_get stands p) (omega arith)
 
 -- what is asked of a place's stand stays, where it is the same before and after
-pub same_of : {B : Type 0} (f : Option PlaceState → B) (g : ℕ → B) (stands : List PlaceState) (p : ℕ) (was now : PlaceState) → slice_get stands p ≡ Some was → f (Some was) ≡ f (Some now) →
+pub same_of : {B : Type 0} (f : Option PlaceState → B) (g : ℕ → B) (stands : List PlaceState) (p : ℕ)
+    (was now : PlaceState) → slice_get stands p ≡ Some was → f (Some was) ≡ f (Some now) →
     ((q : ℕ) → g q ≡ f (slice_get stands q)) → (q : ℕ) → g q ≡ f (slice_get (slice_set stands p now) q)
 same_of f g stands p was now stood same each =
     set_each (λ q s. g q ≡ f s) stands p now (slice_get_within stands p was stood) (each p ∙ ap f stood ∙ same) each
 
 -- a place that is in no queue of the book is away there
-pub away_in_book : (spots : List Spot) (p : ℕ) → p < length spots → is_in_queue (slice_get spots p) ≡ false → slice_get spots p ≡ Some SpotAway
+pub away_in_book : (spots : List Spot) (p : ℕ) → p < length spots → is_in_queue (slice_get spots p) ≡ false →
+    slice_get spots p ≡ Some SpotAway
 away_in_book [] p h e = absurd (omega arith)
 away_in_book (SpotAway ∷ ss) zero h e = refl
 away_in_book (In queue turn ∷ ss) zero h e = cc
@@ -263,18 +292,22 @@ not_below m n h = by (nat_lt m n) refl
     by true e = let k = ltb-true m n e in absurd (omega arith)
     by false e = e
 
-pub below_made : (stands : List PlaceState) (p n : ℕ) (s : PlaceState) → nat_lt p n ≡ is_made (slice_get stands p) → slice_get stands p ≡ Some s → is_made (Some s) ≡ true → p < n
+pub below_made : (stands : List PlaceState) (p n : ℕ) (s : PlaceState) → nat_lt p n ≡ is_made (slice_get stands p) →
+    slice_get stands p ≡ Some s → is_made (Some s) ≡ true → p < n
 below_made stands p n s e stood made = ltb-true p n (e ∙ ap is_made stood ∙ made)
 
 -- the next place is made
-pub made_next : (stands : List PlaceState) (n : ℕ) → n < length stands → ((q : ℕ) → nat_lt q n ≡ is_made (slice_get stands q)) →
+pub made_next : (stands : List PlaceState) (n : ℕ) → n < length stands →
+    ((q : ℕ) → nat_lt q n ≡ is_made (slice_get stands q)) →
     (m : ℕ) → m ≡ n + 1 → (q : ℕ) → nat_lt q m ≡ is_made (slice_get (slice_set stands n Away) q)
 made_next stands n within each m e q = by (eqb_tells q n)
   where
-    by : ((nat_eq q n ≡ true) × (q ≡ n)) ⊎ ((nat_eq q n ≡ false) × (q ≢ n)) → nat_lt q m ≡ is_made (slice_get (slice_set stands n Away) q)
+    by : ((nat_eq q n ≡ true) × (q ≡ n)) ⊎ ((nat_eq q n ≡ false) × (q ≢ n)) →
+        nat_lt q m ≡ is_made (slice_get (slice_set stands n Away) q)
     by (inl f) =
         let k = f.1 in
-        is_below q m (omega arith) ∙ sym (ap is_made (ap (slice_get (slice_set stands n Away)) k ∙ get_same stands n Away within))
+        is_below q m (omega arith) ∙ sym (ap is_made (ap (slice_get (slice_set stands n Away)) k
+        ∙ get_same stands n Away within))
     by (inr f) = step (nat_lt q n) refl ∙ each q ∙ sym (ap is_made (get_other stands n q Away f.1))
       where
         step : (b : Bool) → nat_lt q n ≡ b → nat_lt q m ≡ nat_lt q n
@@ -293,7 +326,8 @@ made_next stands n within each m e q = by (eqb_tells q n)
             above (inr h) = let x : false ≡ true = sym g ∙ is_below q n h in cc
 
 -- all places alike
-pub replicate_each : {X B : Type 0} (f : Option X → B) (b : B) (x : X) → f None ≡ b → f (Some x) ≡ b → (size p : ℕ) → f (slice_get (replicate size x) p) ≡ b
+pub replicate_each : {X B : Type 0} (f : Option X → B) (b : B) (x : X) → f None ≡ b → f (Some x) ≡ b → (size p : ℕ) →
+    f (slice_get (replicate size x) p) ≡ b
 replicate_each f b x none some zero p = none
 replicate_each f b x none some (suc size) zero = some
 replicate_each f b x none some (suc size) (suc p) = replicate_each f b x none some size p
@@ -307,7 +341,8 @@ once_le is (Some s) = by (is s) refl
     by true e = rw e (omega arith)
     by false e = rw e (omega arith)
 
-once_within : (is : PlaceState → Bool) (stands : List PlaceState) (q : ℕ) → 0 < once is (slice_get stands q) → q < length stands
+once_within : (is : PlaceState → Bool) (stands : List PlaceState) (q : ℕ) → 0 < once is (slice_get stands q) →
+    q < length stands
 once_within is stands q h = by (slice_get stands q) refl h
   where
     by : (o : Option PlaceState) → slice_get stands q ≡ o → 0 < once is o → q < length stands
@@ -324,7 +359,8 @@ none_any : (x : ℕ) (xs : List ℕ) → times x xs ≡ 0 → AllByRecursion (λ
 none_any x [] e = tt
 none_any x (y ∷ ys) e = by (none_any x ys) (eqb_tells x y)
   where
-    by : (times x ys ≡ 0 → AllByRecursion (λ y. eqb x y ≡ false) ys) → ((eqb x y ≡ true) × (x ≡ y)) ⊎ ((eqb x y ≡ false) × (x ≢ y)) → AllByRecursion (λ y. eqb x y ≡ false) (y ∷ ys)
+    by : (times x ys ≡ 0 → AllByRecursion (λ y. eqb x y ≡ false) ys) → ((eqb x y ≡ true) × (x ≡ y))
+        ⊎ ((eqb x y ≡ false) × (x ≢ y)) → AllByRecursion (λ y. eqb x y ≡ false) (y ∷ ys)
     by rest (inl f) = let k = counted x y ys f.0 in absurd (omega arith)
     by rest (inr f) = let k = passed x y ys f.0 in (f.0, rest (omega arith))
 
@@ -344,11 +380,14 @@ listed_any q (x ∷ xs) e = by (listed_any q xs) (eqb q x) refl
   where
     by : (list_any (eqb q) xs ≡ true → 0 < times q xs) → (b : Bool) → eqb q x ≡ b → 0 < times q (x ∷ xs)
     by rest true f = let k = counted q x xs f in omega arith
-    by rest false f = let h : list_any (eqb q) xs ≡ true = rw f at e in let k = rest h in let l = fewer q x xs in omega arith
+    by rest false f = let h : list_any (eqb q) xs ≡ true = rw f at e in let k = rest h in let l = fewer q x xs
+        in omega arith
 
-pub has_room : (is : PlaceState → Bool) (stands : List PlaceState) (p : ℕ) (was : PlaceState) (xs : List ℕ) → slice_get stands p ≡ Some was → is was ≡ false →
+pub has_room : (is : PlaceState → Bool) (stands : List PlaceState) (p : ℕ) (was : PlaceState) (xs : List ℕ) →
+    slice_get stands p ≡ Some was → is was ≡ false →
     ((q : ℕ) → times q xs ≡ once is (slice_get stands q)) → length xs < length stands
-has_room is stands p was xs stood not listed = let k = length-le_from_distinct_below (p ∷ xs) (length stands) (distinct (p ∷ xs) at_most) inside in omega arith
+has_room is stands p was xs stood not listed = let k = length-le_from_distinct_below (p ∷ xs) (length stands)
+    (distinct (p ∷ xs) at_most) inside in omega arith
   where
     none_here : times p xs ≡ 0
     none_here = listed p ∙ ap (once is) stood ∙ rw not refl
@@ -357,8 +396,10 @@ has_room is stands p was xs stood not listed = let k = length-le_from_distinct_b
     at_most q = by (eqb_tells q p)
       where
         by : ((eqb q p ≡ true) × (q ≡ p)) ⊎ ((eqb q p ≡ false) × (q ≢ p)) → times q (p ∷ xs) ≤ 1
-        by (inl e) = let k : times q xs ≡ 0 = ap (λ (r : ℕ). times r xs) e.1 ∙ none_here in let j = counted q p xs e.0 in omega arith
-        by (inr e) = let k = listed q in let l = once_le is (slice_get stands q) in let j = passed q p xs e.0 in omega arith
+        by (inl e) = let k : times q xs ≡ 0 = ap (λ (r : ℕ). times r xs) e.1 ∙ none_here in let j = counted q p xs e.0
+            in omega arith
+        by (inr e) = let k = listed q in let l = once_le is (slice_get stands q) in let j = passed q p xs e.0 in omega
+            arith
 
     inside : (q : ℕ) → list_any (eqb q) (p ∷ xs) ≡ true → q < length stands
     inside q e = by (eqb_tells q p)
@@ -372,12 +413,15 @@ has_room is stands p was xs stood not listed = let k = length-le_from_distinct_b
             once_within is stands q (omega arith)
 
 -- a place that is in a queue of the book waits there
-pub waits_in_book : (stands : List PlaceState) (spots : List Spot) (p : ℕ) (queue : Queue) (turn : ℕ) → ((q : ℕ) → is_in_queue (slice_get spots q) ≡ is_waiting (slice_get stands q)) →
+pub waits_in_book : (stands : List PlaceState) (spots : List Spot) (p : ℕ) (queue : Queue) (turn : ℕ) →
+    ((q : ℕ) → is_in_queue (slice_get spots q) ≡ is_waiting (slice_get stands q)) →
     slice_get spots p ≡ Some (In queue turn) → slice_get stands p ≡ Some Waits
-waits_in_book stands spots p queue turn waits in_queue = stands_waiting (slice_get stands p) (sym (waits p) ∙ ap is_in_queue in_queue)
+waits_in_book stands spots p queue turn waits in_queue = stands_waiting (slice_get stands p) (sym (waits p)
+    ∙ ap is_in_queue in_queue)
 
 -- a session is at a place that says so
-pub session_there : {G : Type 0} (stands : List PlaceState) (sessions : List (Option G)) (p : ℕ) (s : PlaceState) → ((q : ℕ) → has_some (slice_get sessions q) ≡ is_here (slice_get stands q)) →
+pub session_there : {G : Type 0} (stands : List PlaceState) (sessions : List (Option G)) (p : ℕ) (s : PlaceState) →
+    ((q : ℕ) → has_some (slice_get sessions q) ≡ is_here (slice_get stands q)) →
     slice_get stands p ≡ Some s → is_here (Some s) ≡ true → (g : G) × (slice_get sessions p ≡ Some (Some g))
 session_there stands sessions p s here stood says = some_there (slice_get sessions p) (here p ∙ ap is_here stood ∙ says)
 

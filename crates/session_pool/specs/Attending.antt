@@ -32,13 +32,15 @@ pub record IsSame (g h : PooledSession) : Type 0 where
   pub debt : h.debt ≡ g.debt
 
 -- A front of a buffer was heard, which isn't empty: what was read of an input.
-pub record HearsSome (input left : Option (List ℕ)) (v : ConversationValue) (buffer : List ℕ) (w : ConversationValue) : Type 0 where
+pub record HearsSome (input left : Option (List ℕ)) (v : ConversationValue) (buffer : List ℕ)
+    (w : ConversationValue) : Type 0 where
   pub count : ℕ
   pub some : count ≡ 0 → ⊥
   pub consumed : Consumes input left (take count buffer)
   pub hears : Hears v (take count buffer) w
 
--- why a session ends at a read: its stream ended between two messages or inside one, or the read failed, or there was no memory
+-- why a session ends at a read: its stream ended between two messages or inside one, or the read failed, or there was
+-- no memory
 abbrev pub IsHeardEnd : ConversationValue → SessionEnd → Type 0
 IsHeardEnd v end = IsAtLast v.session end ⊎ ((end ≡ ReadFailed) ⊎ (end ≡ NoMemory))
 
@@ -54,7 +56,8 @@ pub record IsAllSaid (v : ConversationValue) (next : Due) : Type 0 where
   pub goes_on : v.end ≡ None
   pub next_is : due_next v ≡ next
 
--- What becomes of a session: it is listened to, it waits for its turn, for a while or for its client, or it has ended, or could not be written to.
+-- What becomes of a session: it is listened to, it waits for its turn, for a while or for its client, or it has ended,
+-- or could not be written to.
 abbrev pub Becomes : ConversationValue → Then → Type 0
 Becomes v Listens = IsAllSaid v DueNothing
 Becomes v Updates = IsAllSaid v DueUpdate
@@ -64,23 +67,28 @@ Becomes v Waits = v.unsent ≡ [] → ⊥
 Becomes v (ThenEnds end) = ((v.unsent ≡ []) × (v.end ≡ Some end)) ⊎ (end ≡ WriteFailed)
 
 -- a message was answered by a directory, wherever the conversation stood
-pub record Answers {D T : Type 0} (allows : D → Exchange T → D → Type 0) (c : ConfigValue) (v w : ConversationValue) (d e : D) : Type 0 where
+pub record Answers {D T : Type 0} (allows : D → Exchange T → D → Type 0) (c : ConfigValue) (v w : ConversationValue)
+    (d e : D) : Type 0 where
   pub step : Step
   pub continues : Continues allows c v w d e step
 
 -- the next message, which is no update, was answered by a directory
-pub record AnswersNext {D T : Type 0} (allows : D → Exchange T → D → Type 0) (c : ConfigValue) (v w : ConversationValue) (d e : D) : Type 0 where
+pub record AnswersNext {D T : Type 0} (allows : D → Exchange T → D → Type 0) (c : ConfigValue)
+    (v w : ConversationValue) (d e : D) : Type 0 where
   pub other : due_next v ≡ DueOther
   pub answers : Answers allows c v w d e
 
 -- So many messages were answered by one directory, one after the other, none of which is an update.
-pub data AnswersInTurn {D T : Type 0} (allows : D → Exchange T → D → Type 0) (c : ConfigValue) : ConversationValue → ConversationValue → D → D → ℕ → Type 0 where
+pub data AnswersInTurn {D T : Type 0} (allows : D → Exchange T → D → Type 0) (c : ConfigValue) : ConversationValue →
+    ConversationValue → D → D → ℕ → Type 0 where
   none : {v : ConversationValue} {d : D} → AnswersInTurn allows c v v d d 0
-  one_more : {v w x : ConversationValue} {d e f : D} {count : ℕ} → AnswersInTurn allows c v w d e count → AnswersNext allows c w x e f →
+  one_more : {v w x : ConversationValue} {d e f : D} {count : ℕ} → AnswersInTurn allows c v w d e count →
+      AnswersNext allows c w x e f →
       AnswersInTurn allows c v x d f (suc count)
 
 -- at most so many were
-pub record AnswersSome {D T : Type 0} (allows : D → Exchange T → D → Type 0) (c : ConfigValue) (v w : ConversationValue) (d e : D) (most : ℕ) : Type 0 where
+pub record AnswersSome {D T : Type 0} (allows : D → Exchange T → D → Type 0) (c : ConfigValue)
+    (v w : ConversationValue) (d e : D) (most : ℕ) : Type 0 where
   pub count : ℕ
   pub in_turn : AnswersInTurn allows c v w d e count
   pub at_most : count ≤ most

@@ -11,7 +11,8 @@ use Rattle.session_pool.specs.declared.pooled.Then.{Then}
 use Rattle.session_pool.specs.declared.pooled.Then.TheVariants.{Ends}
 
 -- One sitting: at most 16 messages are answered, none of which is an update, and a front of what is unsent is sent.
-pub record Sitting {D T : Type 0} (allows : D → Exchange T → D → Type 0) (c : ConfigValue) (v w : ConversationValue) (d e : D) : Type 0 where
+pub record Sitting {D T : Type 0} (allows : D → Exchange T → D → Type 0) (c : ConfigValue) (v w : ConversationValue)
+    (d e : D) : Type 0 where
   pub answered : ConversationValue
   pub answers : AnswersSome allows c v answered d e 16
   pub sent : HasSent answered w
@@ -22,15 +23,19 @@ pub record HearsOn (v w : ConversationValue) : Type 0 where
   pub buffer : List ℕ
   pub heard : HearsSome None None v buffer w
 
--- So many sittings in a row. A further one follows only where all is said and no whole message is left over, and then octets are heard: a session
+-- So many sittings in a row. A further one follows only where all is said and no whole message is left over, and then
+-- octets are heard: a session
 -- with messages left over goes to the back of the queue.
-pub data InARow {D T : Type 0} (allows : D → Exchange T → D → Type 0) (c : ConfigValue) : ConversationValue → ConversationValue → D → D → ℕ → Type 0 where
+pub data InARow {D T : Type 0} (allows : D → Exchange T → D → Type 0) (c : ConfigValue) : ConversationValue →
+    ConversationValue → D → D → ℕ → Type 0 where
   sits : {v w : ConversationValue} {d e : D} → Sitting allows c v w d e → InARow allows c v w d e 1
-  sits_on : {v w x y : ConversationValue} {d e f : D} {count : ℕ} → InARow allows c v w d e count → HearsOn w x → Sitting allows c x y e f →
+  sits_on : {v w x y : ConversationValue} {d e f : D} {count : ℕ} → InARow allows c v w d e count → HearsOn w x →
+      Sitting allows c x y e f →
       InARow allows c v y d f (suc count)
 
 -- at most so many
-pub record InARowUpTo {D T : Type 0} (allows : D → Exchange T → D → Type 0) (c : ConfigValue) (v w : ConversationValue) (d e : D) (most : ℕ) : Type 0 where
+pub record InARowUpTo {D T : Type 0} (allows : D → Exchange T → D → Type 0) (c : ConfigValue)
+    (v w : ConversationValue) (d e : D) (most : ℕ) : Type 0 where
   pub count : ℕ
   pub in_a_row : InARow allows c v w d e count
   pub at_most : count ≤ most
@@ -41,7 +46,8 @@ EndsSilent v (Ends end) = IsAllSaid v DueNothing × IsHeardEnd v end
 EndsSilent v then = ⊥
 
 -- A thread attends to a session: this has at most 256 sittings in a row, and becomes what it is fit for after the last.
-pub record Attends {D T : Type 0} (allows : D → Exchange T → D → Type 0) (c : ConfigValue) (v w : ConversationValue) (d e : D) (then : Then) : Type 0 where
+pub record Attends {D T : Type 0} (allows : D → Exchange T → D → Type 0) (c : ConfigValue) (v w : ConversationValue)
+    (d e : D) (then : Then) : Type 0 where
   pub sittings : InARowUpTo allows c v w d e 256
   pub becomes : Becomes w then ⊎ EndsSilent w then
 

@@ -5,16 +5,19 @@ use Rattle.session_turns.specs.declared.owing.Class.{Class}
 use Rattle.session_turns.specs.declared.owing.Class.TheVariants.{First}
 use Rattle.session_turns.specs.Owing.{owes, charged, charged_all, Charge, AreSmall, nothing_owed, SmallSharesStayFirst}
 
-charge_small : (owed at since used now : ℕ) → owed ≤ 320000 → at ≤ since → used ≤ 5000 → since + 64 * used ≤ now → min (owed - (now - at) + 64 * used) 81920000 ≤ 320000
+charge_small : (owed at since used now : ℕ) → owed ≤ 320000 → at ≤ since → used ≤ 5000 → since + 64 * used ≤ now →
+    min (owed - (now - at) + 64 * used) 81920000 ≤ 320000
 charge_small owed at since used now a b c d = omega arith
 
 charge_after : (at since used now : ℕ) → at ≤ since → since + 64 * used ≤ now → max now at ≤ now
 charge_after at since used now a b = omega arith
 
-owed_small : (cs : List Charge) (since : ℕ) (d : Debt) → d.owed ≤ 320000 → d.at ≤ since → AreSmall since cs → (charged_all cs d).owed ≤ 320000
+owed_small : (cs : List Charge) (since : ℕ) (d : Debt) → d.owed ≤ 320000 → d.at ≤ since → AreSmall since cs →
+    (charged_all cs d).owed ≤ 320000
 owed_small [] since d a b small = a
 owed_small (c ∷ cs) since d a b small =
-    owed_small cs c.now (charged d c.used c.now) (charge_small d.owed d.at since c.used c.now a b small.0 small.1) (charge_after d.at since c.used c.now b small.1) small.2
+    owed_small cs c.now (charged d c.used c.now) (charge_small d.owed d.at since c.used c.now a b small.0 small.1)
+    (charge_after d.at since c.used c.now b small.1) small.2
 
 first_of : (b : Bool) (rest : Class) → b ≡ true → cond b First rest ≡ First
 first_of true rest e = refl

@@ -1,4 +1,5 @@
--- The queues of a table go on to tell its places. Facts on lists and look-ups come in and go out; no value of the program is here.
+-- The queues of a table go on to tell its places. Facts on lists and look-ups come in and go out; no value of the
+-- program is here.
 use Rattle.std.proofs.Common.{◌≡◌, ◌≢◌, ◌⊎◌, inl, inr, ℕ, zero, suc, ◌+◌, ◌<◌, ◌≤◌, List, [], ◌∷◌, length, Bool, true, false, ◌&&◌, cond, Option, None, Some, refl, sym, ap, subst, ◌∙◌, arith}
 use Rattle.std.specs.Prelude.{slice_get, slice_set, nat_eq, IfSome, IfNone}
 use Rattle.std.proofs.lemmas.Bool.Decides.{eqb_tells}
@@ -26,17 +27,20 @@ get_other (x ∷ xs) (suc i) zero w h = refl
 get_other (x ∷ xs) (suc i) (suc j) w h = get_other xs i j w (apart_before i j h)
 
 -- what stands where, once a place is set
-is_in_set : (spots : List Spot) (p : ℕ) (x : Spot) (q : ℕ) (queue : Queue) (t : ℕ) → p < length spots → IsIn (slice_set spots p x) q queue t →
+is_in_set : (spots : List Spot) (p : ℕ) (x : Spot) (q : ℕ) (queue : Queue) (t : ℕ) → p < length spots →
+    IsIn (slice_set spots p x) q queue t →
     ((q ≡ p) × (x ≡ In queue t)) ⊎ ((q ≢ p) × IsIn spots q queue t)
 is_in_set spots p x q queue t within is = by (eqb_tells q p)
   where
     at_place : q ≡ p → x ≡ In queue t
-    at_place e = let h = get_same spots p x within in let g = subst (λ (r : ℕ). IsIn (slice_set spots p x) r queue t) e is in some_same (sym h ∙ g)
+    at_place e = let h = get_same spots p x within in let g = subst (λ (r : ℕ). IsIn (slice_set spots p x) r queue t)
+        e is in some_same (sym h ∙ g)
       where
         some_same : Some x ≡ Some (In queue t) → x ≡ In queue t
         some_same e = cc
 
-    by : ((nat_eq q p ≡ true) × (q ≡ p)) ⊎ ((nat_eq q p ≡ false) × (q ≢ p)) → ((q ≡ p) × (x ≡ In queue t)) ⊎ ((q ≢ p) × IsIn spots q queue t)
+    by : ((nat_eq q p ≡ true) × (q ≡ p)) ⊎ ((nat_eq q p ≡ false) × (q ≢ p)) → ((q ≡ p) × (x ≡ In queue t))
+        ⊎ ((q ≢ p) × IsIn spots q queue t)
     by (inl e) = inl (e.1, at_place e.1)
     by (inr e) = inr (e.1, sym (get_other spots p q x e.1) ∙ is)
 
@@ -79,11 +83,14 @@ not_second true y p = p
 not_second false y p = refl
 
 -- whether a queue and a turn are this one and this one
-same_tells : (a b : Queue) (m n : ℕ) → (((is_queue a b && nat_eq m n) ≡ true) × (a ≡ b) × (m ≡ n)) ⊎ (((is_queue a b && nat_eq m n) ≡ false) × (a ≡ b → m ≡ n → ⊥))
+same_tells : (a b : Queue) (m n : ℕ) → (((is_queue a b && nat_eq m n) ≡ true) × (a ≡ b) × (m ≡ n))
+    ⊎ (((is_queue a b && nat_eq m n) ≡ false) × (a ≡ b → m ≡ n → ⊥))
 same_tells a b m n = by (queue_tells a b) (eqb_tells m n)
   where
-    by : ((is_queue a b ≡ true) × (a ≡ b)) ⊎ ((is_queue a b ≡ false) × (a ≡ b → ⊥)) → ((nat_eq m n ≡ true) × (m ≡ n)) ⊎ ((nat_eq m n ≡ false) × (m ≢ n)) →
-        (((is_queue a b && nat_eq m n) ≡ true) × (a ≡ b) × (m ≡ n)) ⊎ (((is_queue a b && nat_eq m n) ≡ false) × (a ≡ b → m ≡ n → ⊥))
+    by : ((is_queue a b ≡ true) × (a ≡ b)) ⊎ ((is_queue a b ≡ false) × (a ≡ b → ⊥)) → ((nat_eq m n ≡ true) × (m ≡ n))
+        ⊎ ((nat_eq m n ≡ false) × (m ≢ n)) →
+        (((is_queue a b && nat_eq m n) ≡ true) × (a ≡ b) × (m ≡ n)) ⊎ (((is_queue a b && nat_eq m n) ≡ false)
+        × (a ≡ b → m ≡ n → ⊥))
     by (inl p) (inl q) = inl (both (is_queue a b) (nat_eq m n) p.0 q.0, p.1, q.1)
     by (inl p) (inr q) = inr (not_second (is_queue a b) (nat_eq m n) q.0, λ _ e. q.1 e)
     by (inr p) q = inr (not_first (is_queue a b) (nat_eq m n) p.0, λ e _. p.1 e)
@@ -130,7 +137,8 @@ not_now : (t n : ℕ) → t < n → n ≡ t → ⊥
 not_now t n h e = absurd (omega (arith, h, e))
 
 -- a place that was away stands in a queue
-module _ (spots : List Spot) (at bt : Queue → ℕ → Option ℕ) (next p : ℕ) (queue : Queue) (away : IsAway spots p) (tells : AllTell spots at next)
+module _ (spots : List Spot) (at bt : Queue → ℕ → Option ℕ) (next p : ℕ) (queue : Queue) (away : IsAway spots p)
+    (tells : AllTell spots at next)
     (put : (q : Queue) (t : ℕ) → bt q t ≡ cond (is_queue queue q && nat_eq next t) (Some p) (at q t)) (q : Queue) where
   within : p < length spots
   within = slice_get_within spots p Away away
@@ -138,7 +146,8 @@ module _ (spots : List Spot) (at bt : Queue → ℕ → Option ℕ) (next p : �
   put_here : (t : ℕ) → queue ≡ q → next ≡ t → bt q t ≡ Some p
   put_here t e f = by (same_tells queue q next t)
     where
-      by : (((is_queue queue q && nat_eq next t) ≡ true) × (queue ≡ q) × (next ≡ t)) ⊎ (((is_queue queue q && nat_eq next t) ≡ false) × (queue ≡ q → next ≡ t → ⊥)) → bt q t ≡ Some p
+      by : (((is_queue queue q && nat_eq next t) ≡ true) × (queue ≡ q) × (next ≡ t))
+          ⊎ (((is_queue queue q && nat_eq next t) ≡ false) × (queue ≡ q → next ≡ t → ⊥)) → bt q t ≡ Some p
       by (inl s) = put q t ∙ chosen (is_queue queue q && nat_eq next t) (Some p) (at q t) s.0
       by (inr s) = absurd (s.1 e f)
 
@@ -148,9 +157,11 @@ module _ (spots : List Spot) (at bt : Queue → ℕ → Option ℕ) (next p : �
       before : IsIn spots r q t → bt q t ≡ Some r
       before was = here (same_tells queue q next t)
         where
-          here : (((is_queue queue q && nat_eq next t) ≡ true) × (queue ≡ q) × (next ≡ t)) ⊎ (((is_queue queue q && nat_eq next t) ≡ false) × (queue ≡ q → next ≡ t → ⊥)) → bt q t ≡ Some r
+          here : (((is_queue queue q && nat_eq next t) ≡ true) × (queue ≡ q) × (next ≡ t))
+              ⊎ (((is_queue queue q && nat_eq next t) ≡ false) × (queue ≡ q → next ≡ t → ⊥)) → bt q t ≡ Some r
           here (inl s) = absurd (not_now t next ((tells q).past r t was) s.2)
-          here (inr s) = put q t ∙ other (is_queue queue q && nat_eq next t) (Some p) (at q t) s.0 ∙ (tells q).told r t was
+          here (inr s) = put q t ∙ other (is_queue queue q && nat_eq next t) (Some p) (at q t) s.0
+              ∙ (tells q).told r t was
 
       by : ((r ≡ p) × (In queue next ≡ In q t)) ⊎ ((r ≢ p) × IsIn spots r q t) → bt q t ≡ Some r
       by (inl e) = put_here t (in_queue queue q next t e.1).0 (in_queue queue q next t e.1).1 ∙ ap Some (sym e.0)
@@ -159,15 +170,21 @@ module _ (spots : List Spot) (at bt : Queue → ℕ → Option ℕ) (next p : �
   put_stands : (t r : ℕ) → bt q t ≡ Some r → IsIn (slice_set spots p (In queue next)) r q t
   put_stands t r is = by (same_tells queue q next t)
     where
-      by : (((is_queue queue q && nat_eq next t) ≡ true) × (queue ≡ q) × (next ≡ t)) ⊎ (((is_queue queue q && nat_eq next t) ≡ false) × (queue ≡ q → next ≡ t → ⊥)) → IsIn (slice_set spots p (In queue next)) r q t
+      by : (((is_queue queue q && nat_eq next t) ≡ true) × (queue ≡ q) × (next ≡ t))
+          ⊎ (((is_queue queue q && nat_eq next t) ≡ false) × (queue ≡ q → next ≡ t → ⊥)) →
+          IsIn (slice_set spots p (In queue next)) r q t
       by (inl s) =
-          let e = some_same p r (sym (chosen (is_queue queue q && nat_eq next t) (Some p) (at q t) s.0) ∙ sym (put q t) ∙ is) in
+          let e = some_same p r (sym (chosen (is_queue queue q && nat_eq next t) (Some p) (at q t) s.0)
+          ∙ sym (put q t) ∙ is) in
           subst (λ (x : Queue). IsIn (slice_set spots p (In queue next)) r x t) s.1
           (subst (λ (n : ℕ). IsIn (slice_set spots p (In queue next)) r queue n) s.2
-          (subst (λ (n : ℕ). IsIn (slice_set spots p (In queue next)) n queue next) e (get_same spots p (In queue next) within)))
+          (subst (λ (n : ℕ). IsIn (slice_set spots p (In queue next)) n queue next) e
+          (get_same spots p (In queue next) within)))
       by (inr s) =
-          let was = (tells q).stands t r (sym (other (is_queue queue q && nat_eq next t) (Some p) (at q t) s.0) ∙ sym (put q t) ∙ is) in
-          get_other spots p r (In queue next) (λ (e : r ≡ p). away_not_in q t (slice_get spots p) away (ap (slice_get spots) (sym e) ∙ was)) ∙ was
+          let was = (tells q).stands t r (sym (other (is_queue queue q && nat_eq next t) (Some p) (at q t) s.0)
+          ∙ sym (put q t) ∙ is) in
+          get_other spots p r (In queue next) (λ (e : r ≡ p). away_not_in q t (slice_get spots p) away
+          (ap (slice_get spots) (sym e) ∙ was)) ∙ was
 
   put_past : (r t : ℕ) → IsIn (slice_set spots p (In queue next)) r q t → t < next + 1
   put_past r t is = by (is_in_set spots p (In queue next) r q t within is)
@@ -180,7 +197,8 @@ module _ (spots : List Spot) (at bt : Queue → ℕ → Option ℕ) (next p : �
   all_put = record { told = put_told; stands = put_stands; past = put_past }
 
 -- a place that stood in a queue is away
-module _ (spots : List Spot) (at bt : Queue → ℕ → Option ℕ) (next p turn : ℕ) (queue : Queue) (was_in : IsIn spots p queue turn) (tells : AllTell spots at next)
+module _ (spots : List Spot) (at bt : Queue → ℕ → Option ℕ) (next p turn : ℕ) (queue : Queue)
+    (was_in : IsIn spots p queue turn) (tells : AllTell spots at next)
     (taken : (q : Queue) (t : ℕ) → bt q t ≡ cond (is_queue queue q && nat_eq turn t) None (at q t)) (q : Queue) where
   there : p < length spots
   there = slice_get_within spots p (In queue turn) was_in
@@ -195,7 +213,8 @@ module _ (spots : List Spot) (at bt : Queue → ℕ → Option ℕ) (next p turn
   taken_told : (r t : ℕ) → IsIn (slice_set spots p Away) r q t → bt q t ≡ Some r
   taken_told r t is = by (taken_before r t is) (same_tells queue q turn t)
     where
-      by : (r ≢ p) × IsIn spots r q t → (((is_queue queue q && nat_eq turn t) ≡ true) × (queue ≡ q) × (turn ≡ t)) ⊎ (((is_queue queue q && nat_eq turn t) ≡ false) × (queue ≡ q → turn ≡ t → ⊥)) → bt q t ≡ Some r
+      by : (r ≢ p) × IsIn spots r q t → (((is_queue queue q && nat_eq turn t) ≡ true) × (queue ≡ q) × (turn ≡ t))
+          ⊎ (((is_queue queue q && nat_eq turn t) ≡ false) × (queue ≡ q → turn ≡ t → ⊥)) → bt q t ≡ Some r
       by e (inl s) =
           let own = (tells queue).told p turn was_in in
           let its = subst (λ (x : Queue). at x t ≡ Some r) (sym s.1) ((tells q).told r t e.1) in
@@ -205,12 +224,17 @@ module _ (spots : List Spot) (at bt : Queue → ℕ → Option ℕ) (next p turn
   taken_stands : (t r : ℕ) → bt q t ≡ Some r → IsIn (slice_set spots p Away) r q t
   taken_stands t r is = by (same_tells queue q turn t)
     where
-      by : (((is_queue queue q && nat_eq turn t) ≡ true) × (queue ≡ q) × (turn ≡ t)) ⊎ (((is_queue queue q && nat_eq turn t) ≡ false) × (queue ≡ q → turn ≡ t → ⊥)) → IsIn (slice_set spots p Away) r q t
-      by (inl s) = absurd (none_apart r (sym (chosen (is_queue queue q && nat_eq turn t) None (at q t) s.0) ∙ sym (taken q t) ∙ is))
+      by : (((is_queue queue q && nat_eq turn t) ≡ true) × (queue ≡ q) × (turn ≡ t))
+          ⊎ (((is_queue queue q && nat_eq turn t) ≡ false) × (queue ≡ q → turn ≡ t → ⊥)) →
+          IsIn (slice_set spots p Away) r q t
+      by (inl s) = absurd (none_apart r (sym (chosen (is_queue queue q && nat_eq turn t) None (at q t) s.0)
+          ∙ sym (taken q t) ∙ is))
       by (inr s) =
-          let was = (tells q).stands t r (sym (other (is_queue queue q && nat_eq turn t) None (at q t) s.0) ∙ sym (taken q t) ∙ is) in
+          let was = (tells q).stands t r (sym (other (is_queue queue q && nat_eq turn t) None (at q t) s.0)
+          ∙ sym (taken q t) ∙ is) in
           get_other spots p r Away
-          (λ (e : r ≡ p). let same = in_queue queue q turn t (same_spot queue q turn t (slice_get spots p) was_in (ap (slice_get spots) (sym e) ∙ was)) in s.1 same.0 same.1)
+          (λ (e : r ≡ p). let same = in_queue queue q turn t (same_spot queue q turn t (slice_get spots p) was_in
+          (ap (slice_get spots) (sym e) ∙ was)) in s.1 same.0 same.1)
           ∙ was
 
   taken_past : (r t : ℕ) → IsIn (slice_set spots p Away) r q t → t < next
@@ -220,17 +244,26 @@ module _ (spots : List Spot) (at bt : Queue → ℕ → Option ℕ) (next p turn
   all_taken = record { told = taken_told; stands = taken_stands; past = taken_past }
 
 -- the queues tell the same
-pub all_same : (spots : List Spot) (at bt : Queue → ℕ → Option ℕ) (next : ℕ) → AllTell spots at next → ((q : Queue) (t : ℕ) → bt q t ≡ at q t) → AllTell spots bt next
+pub all_same : (spots : List Spot) (at bt : Queue → ℕ → Option ℕ) (next : ℕ) → AllTell spots at next →
+    ((q : Queue) (t : ℕ) → bt q t ≡ at q t) → AllTell spots bt next
 all_same spots at bt next tells same q = record {
   told = λ p t is. same q t ∙ (tells q).told p t is;
   stands = λ t p is. (tells q).stands t p (sym (same q t) ∙ is);
   past = (tells q).past;
 }
 
-pub has_put : (spots : List Spot) (at : Queue → ℕ → Option ℕ) (next p : ℕ) (queue : Queue) → AllTell spots at next → IsAway spots p → HasPut spots p queue (slice_set spots p (In queue next))
-has_put spots at next p queue tells away = record { turn = next; away = away; put = refl; last = λ q any t is. (tells any).past q t is }
+pub has_put : (spots : List Spot) (at : Queue → ℕ → Option ℕ) (next p : ℕ) (queue : Queue) → AllTell spots at next →
+    IsAway spots p → HasPut spots p queue (slice_set spots p (In queue next))
+has_put spots at next p queue tells away = record {
+  turn = next;
+  away = away;
+  put = refl;
+  last = λ q any t is.
+      (tells any).past q t is;
+}
 
-pub longest : (spots : List Spot) (at : Queue → ℕ → Option ℕ) (next : ℕ) (queue : Queue) (found : Option ℕ) → AllTell spots at next → IfSome found (λ p. IsFirstAt (at queue) p) → IfSome found (λ p. IsLongest spots queue p)
+pub longest : (spots : List Spot) (at : Queue → ℕ → Option ℕ) (next : ℕ) (queue : Queue) (found : Option ℕ) →
+    AllTell spots at next → IfSome found (λ p. IsFirstAt (at queue) p) → IfSome found (λ p. IsLongest spots queue p)
 longest spots at next queue None tells h = tt
 longest spots at next queue (Some p) tells h = record {
   turn = h.turn;
@@ -238,6 +271,7 @@ longest spots at next queue (Some p) tells h = record {
   longest = λ q t is. h.first t q ((tells queue).told q t is);
 }
 
-pub none_in : (spots : List Spot) (at : Queue → ℕ → Option ℕ) (next : ℕ) (queue : Queue) (found : Option ℕ) → AllTell spots at next → IfNone found ((t : ℕ) → at queue t ≡ None) → IfNone found (NoneIn spots queue)
+pub none_in : (spots : List Spot) (at : Queue → ℕ → Option ℕ) (next : ℕ) (queue : Queue) (found : Option ℕ) →
+    AllTell spots at next → IfNone found ((t : ℕ) → at queue t ≡ None) → IfNone found (NoneIn spots queue)
 none_in spots at next queue (Some p) tells h = tt
 none_in spots at next queue None tells h = λ q t is. none_apart q (sym (h t) ∙ (tells queue).told q t is)

@@ -30,17 +30,21 @@ served false l m e = λ alone none. absurd (apart (sym (e refl) ∙ alone))
 
 freed_led : (b : Bool) (l : LeadValue) (ready : ℕ) → l.is_led ≡ true → IsWatched (does (cond b Rest Serve) l ready)
 freed_led true l ready led = λ alone none. absurd (apart (sym led ∙ alone))
-freed_led false l ready led = served (is_wanted l ready) (record l { unlooked = more l.unlooked }) (record l { unlooked = more l.unlooked }) (λ _. led)
+freed_led false l ready led = served (is_wanted l ready) (record l { unlooked = more l.unlooked })
+    (record l { unlooked = more l.unlooked }) (λ _. led)
 
 freed_alone : (b : Bool) (l : LeadValue) (ready : ℕ) → l.is_led ≡ false → IsWatched (does (cond b Leads Serve) l ready)
 freed_alone true l ready led = λ alone none. absurd (apart alone)
-freed_alone false l ready led = served (is_wanted l ready) (record l { unlooked = more l.unlooked }) (record l { unlooked = more l.unlooked }) (wanted l.is_led led)
+freed_alone false l ready led = served (is_wanted l ready) (record l { unlooked = more l.unlooked })
+    (record l { unlooked = more l.unlooked }) (wanted l.is_led led)
   where
     wanted : (b : Bool) → b ≡ false → (not b || nat_le 2 ready) ≡ false → b ≡ true
     wanted true e f = refl
     wanted false e f = absurd (apart f)
 
-freed_by : (b : Bool) (l : LeadValue) (ready : ℕ) → l.is_led ≡ b → IsWatched (does (cond b (cond (ready == 0) Rest Serve) (cond (ready == 0 || nat_le 16 l.unlooked) Leads Serve)) l ready)
+freed_by : (b : Bool) (l : LeadValue) (ready : ℕ) → l.is_led ≡ b →
+    IsWatched (does (cond b (cond (ready == 0) Rest Serve) (cond (ready == 0 || nat_le 16 l.unlooked) Leads Serve)) l
+    ready)
 freed_by true l ready e = freed_led (ready == 0) l ready e
 freed_by false l ready e = freed_alone (ready == 0 || nat_le 16 l.unlooked) l ready e
 

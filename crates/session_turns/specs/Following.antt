@@ -1,4 +1,5 @@
--- What a seat does behind a message. What it sees comes in, with the moments; what follows comes out. Times are microseconds.
+-- What a seat does behind a message. What it sees comes in, with the moments; what follows comes out. Times are
+-- microseconds.
 use Rattle.std.specs.Prelude.{◌≡◌, ◌<◌, ◌≤◌, ◌+◌, ℕ, false}
 use Rattle.session_turns.specs.declared.following.Seen.{Seen}
 

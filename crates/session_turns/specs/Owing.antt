@@ -1,4 +1,5 @@
--- What a session owes: the time that seats spent on its messages, and what was forgiven since. Times are microseconds, debts 64ths of one.
+-- What a session owes: the time that seats spent on its messages, and what was forgiven since. Times are microseconds,
+-- debts 64ths of one.
 use Rattle.std.specs.Prelude.{◌≡◌, ◌≤◌, ◌+◌, ◌-◌, ◌*◌, ℕ, List, [], ◌∷◌, cond, nat_le, min, max}
 use Rattle.session_turns.specs.declared.owing.Debt.{Debt}
 use Rattle.session_turns.specs.declared.owing.Class.{Class}
@@ -19,7 +20,8 @@ charged d used now = record { owed = min (owes d now + 64 * used) 81920000; at =
 -- The class of a session: up to 5 ms owed, 40 ms, 320 ms, or more.
 abbrev pub class_of : Debt → ℕ → Class
 class_of d now =
-    cond (nat_le (owes d now) 320000) First (cond (nat_le (owes d now) 2560000) Second (cond (nat_le (owes d now) 20480000) Third Last))
+    cond (nat_le (owes d now) 320000) First (cond (nat_le (owes d now) 2560000) Second
+    (cond (nat_le (owes d now) 20480000) Third Last))
 
 -- a seat has spent so much time, until this moment
 pub record Charge : Type 0 where
@@ -38,4 +40,5 @@ AreSmall since (c ∷ cs) = (c.used ≤ 5000) × (since + 64 * c.used ≤ c.now)
 
 -- A session that takes at most a 64th of a seat's time, and 5 ms at once, is of the first class at each moment.
 abbrev pub SmallSharesStayFirst : Type 0
-SmallSharesStayFirst = (charges : List Charge) (now : ℕ) → AreSmall 0 charges → class_of (charged_all charges nothing_owed) now ≡ First
+SmallSharesStayFirst = (charges : List Charge) (now : ℕ) → AreSmall 0 charges →
+    class_of (charged_all charges nothing_owed) now ≡ First

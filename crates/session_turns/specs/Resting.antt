@@ -1,4 +1,5 @@
--- Which seats rest, and whether one leads: waits for sockets, or looks at them. What is known before comes in; what a seat does, whom it calls, and
+-- Which seats rest, and whether one leads: waits for sockets, or looks at them. What is known before comes in; what a
+-- seat does, whom it calls, and
 -- what is known then comes out.
 use Rattle.std.specs.Prelude.{◌≡◌, ◌+◌, ◌-◌, ◌==◌, ◌||◌, ℕ, Bool, true, false, not, cond, nat_le, min, List, [], ◌∷◌}
 use Rattle.session_turns.specs.declared.resting.Was.{Was}
@@ -8,7 +9,8 @@ use Rattle.session_turns.specs.declared.resting.Act.TheVariants.{Serve, Lead as 
 use Rattle.session_turns.specs.declared.resting.Call.{Call}
 use Rattle.session_turns.specs.declared.resting.Call.TheVariants.{Nobody, Seat, Leader}
 
--- whether a seat leads, how many rest, how many calls of one are under way, and how many sessions were taken since the last look
+-- whether a seat leads, how many rest, how many calls of one are under way, and how many sessions were taken since the
+-- last look
 pub record LeadValue : Type 0 where
   pub is_led : Bool
   pub idle : ℕ
@@ -57,10 +59,12 @@ left Serving l = l
 left Resting l = record l { idle = l.idle - 1; called = l.called - 1 }
 left Leading l = laid_down l
 
--- What a free seat does where so many sessions are ready: it leads where none does, and nothing is ready or 16 sessions were taken since the last
+-- What a free seat does where so many sessions are ready: it leads where none does, and nothing is ready or 16 sessions
+-- were taken since the last
 -- look; it rests where another leads, and nothing is ready; else it serves.
 abbrev pub choice : Bool → ℕ → ℕ → Act
-choice is_led unlooked ready = cond is_led (cond (ready == 0) Rest Serve) (cond (ready == 0 || nat_le 16 unlooked) Leads Serve)
+choice is_led unlooked ready = cond is_led (cond (ready == 0) Rest Serve) (cond (ready == 0 || nat_le 16 unlooked)
+    Leads Serve)
 
 -- the same of what is known
 abbrev pub chosen : LeadValue → ℕ → Act
@@ -74,7 +78,8 @@ is_wanted l ready = not l.is_led || nat_le 2 ready
 abbrev pub does : Act → LeadValue → ℕ → LeadValue
 does Rest l ready = record l { idle = more l.idle }
 does Leads l ready = record l { is_led = true; unlooked = 0 }
-does Serve l ready = cond (is_wanted l ready) (called (record l { unlooked = more l.unlooked })) (record l { unlooked = more l.unlooked })
+does Serve l ready = cond (is_wanted l ready) (called (record l { unlooked = more l.unlooked }))
+    (record l { unlooked = more l.unlooked })
 
 -- and whom it calls
 abbrev pub calls : Act → LeadValue → ℕ → Call

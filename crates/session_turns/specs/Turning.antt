@@ -60,7 +60,8 @@ is_empty (w ∷ ws) = false
 abbrev pub least : Queues → Class
 least q = cond (is_empty q.first) (cond (is_empty q.second) (cond (is_empty q.third) Last Third) Second) First
 
--- Those that wait, the number of the next turn, how many were taken since the last one that had waited longest of all, and for how many there is room.
+-- Those that wait, the number of the next turn, how many were taken since the last one that had waited longest of all,
+-- and for how many there is room.
 pub record TurnsValue : Type 0 where
   pub queues : Queues
   pub next : ℕ
@@ -81,7 +82,10 @@ how_many v = how_many_in v.queues
 -- A place waits in a class behind all others of it; turns have numbers of 64 bits.
 abbrev pub lined_up : TurnsValue → ℕ → Class → TurnsValue
 lined_up v place class =
-    record v { queues = put v.queues class (queue v.queues class ++ record { turn = v.next; place = place } ∷ []); next = min (v.next + 1) 18446744073709551615 }
+    record v {
+      queues = put v.queues class (queue v.queues class ++ record { turn = v.next; place = place } ∷ []);
+      next = min (v.next + 1) 18446744073709551615;
+    }
 
 -- The class of which one is taken: the least, unless seven were taken since the one that had waited longest of all.
 abbrev pub chosen : TurnsValue → Class
@@ -102,7 +106,11 @@ next_place v = place_of (next_one v)
 -- the first of a class is taken
 abbrev pub taken_of : Class → TurnsValue → TurnsValue
 taken_of class v =
-    record v { queues = put v.queues class (drop 1 (queue v.queues class)); passed = cond (is_class class (oldest v.queues)) 0 (v.passed + 1) }
+    record v {
+      queues = put v.queues class (drop 1 (queue v.queues class));
+      passed =
+          cond (is_class class (oldest v.queues)) 0 (v.passed + 1);
+    }
 
 abbrev pub taken_if : Option Waiting → TurnsValue → TurnsValue
 taken_if None v = v
@@ -147,7 +155,8 @@ up_to turn (w ∷ ws) = cond (nat_le w.turn turn) 1 0 + up_to turn ws
 abbrev pub up_to_in_all : ℕ → Queues → ℕ
 up_to_in_all turn q = up_to turn q.first + up_to turn q.second + up_to turn q.third + up_to turn q.last
 
--- Whatever was lined up and taken before, and is then: one that is the nth of all that wait, itself counted, and still waits after some takes, waits
+-- Whatever was lined up and taken before, and is then: one that is the nth of all that wait, itself counted, and still
+-- waits after some takes, waits
 -- after fewer than 8 n of them. Turns have numbers of 64 bits.
 abbrev pub EachIsTakenInTime : Type 0
 EachIsTakenInTime =
@@ -156,10 +165,12 @@ EachIsTakenInTime =
     Waits (queue (turned_all after (turned_all before (nobody room))).queues class) turn →
     how_many_takes after < 8 * up_to_in_all turn (turned_all before (nobody room)).queues
 
--- The same of one of the first class: one that is the nth of its class has waited for fewer than n takes, and a seventh of that beside.
+-- The same of one of the first class: one that is the nth of its class has waited for fewer than n takes, and a seventh
+-- of that beside.
 abbrev pub FirstOnesAreTakenSoon : Type 0
 FirstOnesAreTakenSoon =
     (room : ℕ) (before after : List TurnEvent) (turn : ℕ) → turn < 18446744073709551615 →
     Waits (turned_all before (nobody room)).queues.first turn →
     Waits (turned_all after (turned_all before (nobody room))).queues.first turn →
-    how_many_takes after < up_to turn (turned_all before (nobody room)).queues.first + (up_to turn (turned_all before (nobody room)).queues.first + 6) / 7
+    how_many_takes after < up_to turn (turned_all before (nobody room)).queues.first +
+    (up_to turn (turned_all before (nobody room)).queues.first + 6) / 7

@@ -39,7 +39,8 @@ all_more : {P Q : ℕ → Type 0} → ((y : ℕ) → P y → Q y) → (ns : List
 all_more f [] a = tt
 all_more f (x ∷ xs) a = (f x a.0, all_more f xs a.1)
 
-some_kept : (P : ℕ → Type 0) (t : Bool) (x : ℕ) (xs : List ℕ) → P x → AllByRecursion P xs → AllByRecursion P (cond t (x ∷ xs) xs)
+some_kept : (P : ℕ → Type 0) (t : Bool) (x : ℕ) (xs : List ℕ) → P x → AllByRecursion P xs →
+    AllByRecursion P (cond t (x ∷ xs) xs)
 some_kept P true x xs p a = (p, a)
 some_kept P false x xs p a = a
 
@@ -61,7 +62,8 @@ tail_is : (x n : ℕ) (xs ys : List ℕ) → x ∷ xs ≡ n ∷ ys → xs ≡ ys
 tail_is x n xs ys h = cc
 
 -- what comes after the first of what comes after a number
-after_next : (ns : List ℕ) (k n : ℕ) (more : List ℕ) → IsRising ns → filter (nat_lt k) ns ≡ n ∷ more → filter (nat_lt n) ns ≡ more
+after_next : (ns : List ℕ) (k n : ℕ) (more : List ℕ) → IsRising ns → filter (nat_lt k) ns ≡ n ∷ more →
+    filter (nat_lt n) ns ≡ more
 after_next [] k n more s h = cc
 after_next (x ∷ xs) k n more s h = by_bool (nat_lt k x)
     (λ p.
@@ -84,35 +86,43 @@ after_first (x ∷ xs) n more s h =
 
 module _ {X : Type 0} where
   -- a walk that begins with a head
-  pub head_whole : (ns : List ℕ) (first : Option ℕ) (run : List (ℕ × X)) → IsRising ns → IsHead ns first run → ahead ns first ≡ ns
+  pub head_whole : (ns : List ℕ) (first : Option ℕ) (run : List (ℕ × X)) → IsRising ns → IsHead ns first run →
+      ahead ns first ≡ ns
   head_whole ns None run s h = sym h
   head_whole ns (Some n) run s h = ap (λ l. n ∷ l) (after_first ns n (keys_of run ++ h.0) s h.1) ∙ sym h.1
 
-  pub head_after : (ns : List ℕ) (k : ℕ) (first : Option ℕ) (run : List (ℕ × X)) → IsRising ns → IsHead (filter (nat_lt k) ns) first run → ahead ns first ≡ filter (nat_lt k) ns
+  pub head_after : (ns : List ℕ) (k : ℕ) (first : Option ℕ) (run : List (ℕ × X)) → IsRising ns →
+      IsHead (filter (nat_lt k) ns) first run → ahead ns first ≡ filter (nat_lt k) ns
   head_after ns k None run s h = sym h
   head_after ns k (Some n) run s h = ap (λ l. n ∷ l) (after_next ns k n (keys_of run ++ h.0) s h.1) ∙ sym h.1
 
-  pub amid : (ns whole : List ℕ) (first : Option ℕ) (run : List (ℕ × X)) → IsRising ns → ahead ns first ≡ whole → IsHead whole first run → IsAmid ns first run
+  pub amid : (ns whole : List ℕ) (first : Option ℕ) (run : List (ℕ × X)) → IsRising ns → ahead ns first ≡ whole →
+      IsHead whole first run → IsAmid ns first run
   amid ns whole first run s e h = record { rising = s; head = subst (λ l. IsHead l first run) (sym e) h }
 
-  pub run_is : (run : List (ℕ × X)) (d : ℕ × X) → 1 ≤ length run → run ≡ slice_index_or run 0 d ∷ take (length run - 1) (drop 1 run)
+  pub run_is : (run : List (ℕ × X)) (d : ℕ × X) → 1 ≤ length run → run ≡ slice_index_or run 0 d ∷ take
+      (length run - 1) (drop 1 run)
   run_is [] d l = absurd (omega arith)
   run_is (e ∷ es) d l = ap (λ r. e ∷ r) (sym (rest_is 1 (e ∷ es)))
 
   -- a walk one number further within its run
-  step_from : (ns : List ℕ) (n : ℕ) (run : List (ℕ × X)) (e : ℕ × X) (es : List (ℕ × X)) → IsAmid ns (Some n) run → run ≡ e ∷ es → filter (nat_lt n) ns ≡ e.0 ∷ filter (nat_lt e.0) ns
+  step_from : (ns : List ℕ) (n : ℕ) (run : List (ℕ × X)) (e : ℕ × X) (es : List (ℕ × X)) → IsAmid ns (Some n) run →
+      run ≡ e ∷ es → filter (nat_lt n) ns ≡ e.0 ∷ filter (nat_lt e.0) ns
   step_from ns n run e es a h =
       let split = subst (λ r. n ∷ filter (nat_lt n) ns ≡ n ∷ (keys_of r ++ a.head.0)) h a.head.1 in
       let there = tail_is n n _ _ split in
       there ∙ ap (λ l. e.0 ∷ l) (sym (after_next ns n e.0 (keys_of es ++ a.head.0) a.rising there))
 
-  pub step_value : (ns : List ℕ) (first : Option ℕ) (run : List (ℕ × X)) (e : ℕ × X) (es : List (ℕ × X)) (number : ℕ) → IsAmid ns first run → run ≡ e ∷ es → slice_get (ahead ns first) 0 ≡ Some number → ahead ns first ≡ number ∷ e.0 ∷ filter (nat_lt e.0) ns
+  pub step_value : (ns : List ℕ) (first : Option ℕ) (run : List (ℕ × X)) (e : ℕ × X) (es : List (ℕ × X))
+      (number : ℕ) → IsAmid ns first run → run ≡ e ∷ es → slice_get (ahead ns first) 0 ≡ Some number →
+      ahead ns first ≡ number ∷ e.0 ∷ filter (nat_lt e.0) ns
   step_value ns None run e es number a h g = cc
   step_value ns (Some n) run e es number a h g =
       let same : n ≡ number = cc in
       ap (λ l. n ∷ l) (step_from ns n run e es a h) ∙ ap (λ m. m ∷ e.0 ∷ filter (nat_lt e.0) ns) same
 
-  pub step_amid : (ns : List ℕ) (first : Option ℕ) (run : List (ℕ × X)) (e : ℕ × X) (es : List (ℕ × X)) (number : ℕ) → IsAmid ns first run → run ≡ e ∷ es → slice_get (ahead ns first) 0 ≡ Some number → IsAmid ns (Some e.0) es
+  pub step_amid : (ns : List ℕ) (first : Option ℕ) (run : List (ℕ × X)) (e : ℕ × X) (es : List (ℕ × X)) (number : ℕ) →
+      IsAmid ns first run → run ≡ e ∷ es → slice_get (ahead ns first) 0 ≡ Some number → IsAmid ns (Some e.0) es
   step_amid ns None run e es number a h g = cc
   step_amid ns (Some n) run e es number a h g =
       let split = subst (λ r. n ∷ filter (nat_lt n) ns ≡ n ∷ (keys_of r ++ a.head.0)) h a.head.1 in
@@ -138,12 +148,15 @@ module _ (least n : ℕ) where
   least_kept (x ∷ xs) h = by_bool (nat_le least x)
       (λ q.
       let over : least ≤ x = leb-true least x q in
-      ap (filter (nat_le least)) (cond-true (x ∷ filter (nat_lt n) xs) (filter (nat_lt n) xs) (lt-ltb n x (omega arith)))
+      ap (filter (nat_le least)) (cond-true (x ∷ filter (nat_lt n) xs) (filter (nat_lt n) xs)
+      (lt-ltb n x (omega arith)))
       ∙ cond-true _ _ q ∙ ap (λ l. x ∷ l) (least_kept xs h)
-      ∙ sym (cond-true (x ∷ filter (nat_lt (least - 1)) xs) (filter (nat_lt (least - 1)) xs) (lt-ltb (least - 1) x (omega arith))))
+      ∙ sym (cond-true (x ∷ filter (nat_lt (least - 1)) xs) (filter (nat_lt (least - 1)) xs)
+      (lt-ltb (least - 1) x (omega arith))))
       (λ q.
       let under : x < least = leb-false least x q in
-      let gone = cond-false (x ∷ filter (nat_lt (least - 1)) xs) (filter (nat_lt (least - 1)) xs) (not_below (least - 1) x (omega arith)) in
+      let gone = cond-false (x ∷ filter (nat_lt (least - 1)) xs) (filter (nat_lt (least - 1)) xs)
+      (not_below (least - 1) x (omega arith)) in
       by_bool (nat_lt n x)
       (λ p.
       ap (filter (nat_le least)) (cond-true (x ∷ filter (nat_lt n) xs) (filter (nat_lt n) xs) p)
@@ -156,17 +169,21 @@ module _ (least n : ℕ) where
   from_least ns h = sym (cond-true _ _ (le-leb least n h) ∙ ap (λ l. n ∷ l) (kept_least ns h))
 
   -- a walk whose next number is at least what is sought
-  pub at_least : (ns whole : List ℕ) (first : Option ℕ) → ahead ns first ≡ whole → first ≡ Some n → least ≤ n → whole ≡ filter (nat_le least) whole
+  pub at_least : (ns whole : List ℕ) (first : Option ℕ) → ahead ns first ≡ whole → first ≡ Some n → least ≤ n →
+      whole ≡ filter (nat_le least) whole
   at_least ns whole first e f h =
       let is = sym e ∙ ap (ahead ns) f in
       subst (λ l. l ≡ filter (nat_le least) l) (sym is) (from_least ns h)
 
   -- a walk that goes on behind a number below what is sought
-  pub above_least : (ns whole : List ℕ) (first : Option ℕ) → ahead ns first ≡ whole → slice_get whole 0 ≡ Some n → n < least → filter (nat_lt (least - 1)) ns ≡ filter (nat_le least) whole
+  pub above_least : (ns whole : List ℕ) (first : Option ℕ) → ahead ns first ≡ whole → slice_get whole 0 ≡ Some n →
+      n < least → filter (nat_lt (least - 1)) ns ≡ filter (nat_le least) whole
   above_least ns whole None e f h =
       let g : slice_get [] 0 ≡ Some n = ap (λ l. slice_get l 0) e ∙ f in cc
   above_least ns whole (Some m) e f h =
       let g : Some m ≡ Some n = ap (λ l. slice_get l 0) e ∙ f in
       let same : m ≡ n = cc in
       let is : n ∷ filter (nat_lt n) ns ≡ whole = sym (ap (λ k. ahead ns (Some k)) same) ∙ e in
-      sym (least_kept ns h) ∙ sym (cond-false _ _ (by_bool (nat_le least n) (λ q. let over : least ≤ n = leb-true least n q in absurd (omega arith)) (λ q. q))) ∙ ap (filter (nat_le least)) is
+      sym (least_kept ns h) ∙ sym
+      (cond-false _ _ (by_bool (nat_le least n) (λ q. let over : least ≤ n = leb-true least n q in absurd
+      (omega arith)) (λ q. q))) ∙ ap (filter (nat_le least)) is

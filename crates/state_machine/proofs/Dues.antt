@@ -15,7 +15,8 @@ some_left : {A : Type 0} (i : ℕ) (xs : List A) → i < length xs → drop i xs
 some_left i xs h e = omega (arith, h, length-drop i xs, ap length e)
 
 -- some were executed, and more are left
-pub stops : (i : ℕ) (old due new : List (LogEntry OpValue)) → new ≡ old ++ take i due → i < length due → IsFront old due new
+pub stops : (i : ℕ) (old due new : List (LogEntry OpValue)) → new ≡ old ++ take i due → i < length due →
+    IsFront old due new
 stops i old due new e h = record {
   done = take i due;
   left = drop i due;

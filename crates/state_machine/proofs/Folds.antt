@@ -46,13 +46,15 @@ length_more [] e = refl
 length_more (x ∷ es) e = omega (arith, length_more es e)
 
 -- One more record.
-pub fold_more : (s : SchemaModel) (suffix : List RdnModel) (es : List (LogEntry OpValue)) (e : LogEntry OpValue) (d new : Directory) (rs : List ReplyModel) (reply : ReplyModel) (n : ℕ)
+pub fold_more : (s : SchemaModel) (suffix : List RdnModel) (es : List (LogEntry OpValue)) (e : LogEntry OpValue)
+    (d new : Directory) (rs : List ReplyModel) (reply : ReplyModel) (n : ℕ)
     → IsFold s suffix es d rs → n ≡ length es + 1
     → new ≡ applied d n e.payload → reply ≡ reply_to d n e.payload → NumbersBelow (n + 1) new.entries
     → IsFold s suffix (es ++ e ∷ []) new (rs ++ reply ∷ [])
 fold_more s suffix es e d new rs reply n fold number made replied below =
     let d0 : Directory = empty_directory s suffix in
-    let at : n ≡ 0 + length (ops_of es) + 1 = number ∙ (ap (λ (k : ℕ). k + 1) (sym (ops_length es)) ∙ none_plus (length (ops_of es))) in
+    let at : n ≡ 0 + length (ops_of es) + 1 = number ∙ (ap (λ (k : ℕ). k + 1) (sym (ops_length es))
+    ∙ none_plus (length (ops_of es))) in
     record {
       directory =
           made ∙ ap (λ (x : Directory). applied x n e.payload) fold.directory
@@ -61,23 +63,31 @@ fold_more s suffix es e d new rs reply n fold number made replied below =
           ∙ ap (λ (l : List OpValue). directory_after d0 0 l) (sym (ops_more es e));
       replies_are =
           ap (λ (l : List ReplyModel). l ++ reply ∷ []) fold.replies_are
-          ∙ ap (λ (r : ReplyModel). replies_after d0 0 (ops_of es) ++ r ∷ []) (replied ∙ ap (λ (x : Directory). reply_to x n e.payload) fold.directory ∙ ap (λ (k : ℕ). reply_to (directory_after d0 0 (ops_of es)) k e.payload) at)
+          ∙ ap (λ (r : ReplyModel). replies_after d0 0 (ops_of es) ++ r ∷ []) (replied
+          ∙ ap (λ (x : Directory). reply_to x n e.payload) fold.directory
+          ∙ ap (λ (k : ℕ). reply_to (directory_after d0 0 (ops_of es)) k e.payload) at)
           ∙ sym (replies_join d0 0 (ops_of es) (e.payload ∷ []))
           ∙ ap (λ (l : List OpValue). replies_after d0 0 l) (sym (ops_more es e));
       below = subst (λ (k : ℕ). NumbersBelow (k + 1) new.entries) (number ∙ sym (length_more es e)) below;
     }
 
 -- the same as it is kept: the records, the directory and the replies after a push
-pub fold_pushed : (es records : List (LogEntry OpValue)) (e kept : LogEntry OpValue) (d new : Directory) (rs replies : List Reply) (reply : Reply) (n : ℕ)
+pub fold_pushed : (es records : List (LogEntry OpValue)) (e kept : LogEntry OpValue) (d new : Directory)
+    (rs replies : List Reply) (reply : Reply) (n : ℕ)
     → IsFold d.schema d.suffix es d (replies_view rs) → n ≡ length es + 1
     → new ≡ applied d n e.payload → reply_view reply ≡ reply_to d n e.payload → NumbersBelow (n + 1) new.entries
     → kept ≡ e → records ≡ es ++ kept ∷ [] → replies ≡ rs ++ reply ∷ []
     → IsFold new.schema new.suffix records new (replies_view replies)
 fold_pushed es records e kept d new rs replies reply n fold number made replied below same pushed told =
-    let f = fold_more d.schema d.suffix es e d new (replies_view rs) (reply_view reply) n fold number made replied below in
+    let f = fold_more d.schema d.suffix es e d new (replies_view rs) (reply_view reply) n fold number made replied
+    below in
     let records-are : es ++ e ∷ [] ≡ records = sym (pushed ∙ ap (λ (x : LogEntry OpValue). es ++ x ∷ []) same) in
-    let replies-are : replies_view rs ++ reply_view reply ∷ [] ≡ replies_view replies = sym (ap replies_view told ∙ map-append reply_view rs (reply ∷ [])) in
-    subst (λ (x : SchemaModel). IsFold x new.suffix records new (replies_view replies)) (sym (same_schema d new n e.payload made))
-    (subst (λ (x : List RdnModel). IsFold d.schema x records new (replies_view replies)) (sym (same_suffix d new n e.payload made))
+    let replies-are : replies_view rs ++ reply_view reply ∷ [] ≡ replies_view replies = sym (ap replies_view told
+    ∙ map-append reply_view rs (reply ∷ [])) in
+    subst (λ (x : SchemaModel). IsFold x new.suffix records new (replies_view replies))
+    (sym (same_schema d new n e.payload made))
+    (subst (λ (x : List RdnModel). IsFold d.schema x records new (replies_view replies))
+    (sym (same_suffix d new n e.payload made))
     (subst (λ (x : List ReplyModel). IsFold d.schema d.suffix records new x) replies-are
-    (subst (λ (x : List (LogEntry OpValue)). IsFold d.schema d.suffix x new (replies_view rs ++ reply_view reply ∷ [])) records-are f)))
+    (subst (λ (x : List (LogEntry OpValue)). IsFold d.schema d.suffix x new (replies_view rs ++ reply_view
+    reply ∷ [])) records-are f)))

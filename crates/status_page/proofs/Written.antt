@@ -18,11 +18,13 @@ pub four : (a b c d k l m n : List ℕ) → a ≡ k → b ≡ l → c ≡ m → 
 four a b c d k l m n p q r s = rw (p, q, r, s) (simp append_assoc)
 
 -- five parts, one after the other
-pub five : (a b c d e k l m n o : List ℕ) → a ≡ k → b ≡ l → c ≡ m → d ≡ n → e ≡ o → a ++ (b ++ (c ++ (d ++ e))) ≡ k ++ l ++ m ++ n ++ o
+pub five : (a b c d e k l m n o : List ℕ) → a ≡ k → b ≡ l → c ≡ m → d ≡ n → e ≡ o → a ++ (b ++ (c ++ (d ++ e))) ≡
+    k ++ l ++ m ++ n ++ o
 five a b c d e k l m n o p q r s t = rw (p, q, r, s, t) (simp append_assoc)
 
 -- a figure with other samples, that are the same octets
-pub figure_of : {E : Type 0} {S : Type 0} (octets : S → List ℕ) (r : Result S E) (name help kind shown samples : List ℕ) → shown ≡ samples →
+pub figure_of : {E : Type 0} {S : Type 0} (octets : S → List ℕ) (r : Result S E) (name help kind shown samples :
+    List ℕ) → shown ≡ samples →
     IfOk r (λ s. octets s ≡ figure name help kind shown) → IfOk r (λ s. octets s ≡ figure name help kind samples)
 figure_of octets r name help kind shown samples e h =
     IfOk-weaker r (λ s. octets s ≡ figure name help kind shown) (λ s. octets s ≡ figure name help kind samples)
@@ -33,7 +35,8 @@ pub two : (a b k l : List ℕ) → a ≡ k → b ≡ l → a ++ b ≡ k ++ l
 two a b k l p q = rw (p, q) refl
 
 -- a response with another text, that is the same octets
-pub response_of : {E : Type 0} {S : Type 0} (octets : S → List ℕ) (r : Result S E) (how : Method) (status shown text : List ℕ) → shown ≡ text →
+pub response_of : {E : Type 0} {S : Type 0} (octets : S → List ℕ) (r : Result S E) (how : Method) (status shown text :
+    List ℕ) → shown ≡ text →
     IfOk r (λ s. octets s ≡ response how status shown) → IfOk r (λ s. octets s ≡ response how status text)
 response_of octets r how status shown text e h =
     IfOk-weaker r (λ s. octets s ≡ response how status shown) (λ s. octets s ≡ response how status text)

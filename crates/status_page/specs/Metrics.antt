@@ -22,21 +22,25 @@ compares_text k =
 -- the updates, by result code
 abbrev pub updates_text : Counts → List ℕ
 updates_text k =
-    labelled_figure (codes "dird_updates_total") (codes "Updates that were asked of this replica and answered, by result code; 10 is a referral.")
+    labelled_figure (codes "dird_updates_total")
+    (codes "Updates that were asked of this replica and answered, by result code; 10 is a referral.")
     (codes "counter") (codes "code") k.updates.items
 
 -- the binds, by result code
 abbrev pub binds_text : Counts → List ℕ
 binds_text k =
-    labelled_figure (codes "dird_binds_total") (codes "Binds that were answered, by result code; 0 is one that was accepted.")
+    labelled_figure (codes "dird_binds_total")
+    (codes "Binds that were answered, by result code; 0 is one that was accepted.")
     (codes "counter") (codes "code") k.binds.items
 
 -- what searches cost
 abbrev pub effort_text : Counts → List ℕ
 effort_text k =
-    figure (codes "dird_evaluated_entries_total") (codes "Entries on which searches evaluated their filters.") (codes "counter")
+    figure (codes "dird_evaluated_entries_total") (codes "Entries on which searches evaluated their filters.")
+    (codes "counter")
     (sample (codes "dird_evaluated_entries_total") k.evaluated)
-    ++ figure (codes "dird_slow_searches_total") (codes "Searches that did so on more entries than --slow.") (codes "counter")
+    ++ figure (codes "dird_slow_searches_total") (codes "Searches that did so on more entries than --slow.")
+    (codes "counter")
     (sample (codes "dird_slow_searches_total") k.slow)
 
 -- what a replica has answered since its start
@@ -63,15 +67,19 @@ threads_text k =
 -- what its clients take, and who was sent away
 abbrev pub clients_text : ClientCounts → List ℕ
 clients_text k =
-    figure (codes "dird_client_memory_bytes") (codes "Octets of memory that the sessions of clients hold.") (codes "gauge")
+    figure (codes "dird_client_memory_bytes") (codes "Octets of memory that the sessions of clients hold.")
+    (codes "gauge")
     (sample (codes "dird_client_memory_bytes") k.memory)
-    ++ figure (codes "dird_client_memory_limit_bytes") (codes "Octets of memory that they may hold together.") (codes "gauge")
+    ++ figure (codes "dird_client_memory_limit_bytes") (codes "Octets of memory that they may hold together.")
+    (codes "gauge")
     (sample (codes "dird_client_memory_limit_bytes") k.memory_limit)
-    ++ figure (codes "dird_sessions_ended_for_memory_total") (codes "Sessions that were ended since all held more than they may.") (codes "counter")
+    ++ figure (codes "dird_sessions_ended_for_memory_total")
+    (codes "Sessions that were ended since all held more than they may.") (codes "counter")
     (sample (codes "dird_sessions_ended_for_memory_total") k.ended)
     ++ figure (codes "dird_session_limit") (codes "How many sessions there may be.") (codes "gauge")
     (sample (codes "dird_session_limit") k.session_limit)
-    ++ figure (codes "dird_sessions_evicted_total") (codes "Sessions that were ended, or not begun, since there was no room.") (codes "counter")
+    ++ figure (codes "dird_sessions_evicted_total")
+    (codes "Sessions that were ended, or not begun, since there was no room.") (codes "counter")
     (sample (codes "dird_sessions_evicted_total") k.evicted)
 
 -- what passes between it and its clients
@@ -98,19 +106,22 @@ queued_text k =
 -- those of them that were taken from the queue
 abbrev pub sent_text : PeerCounts → List ℕ
 sent_text k =
-    labelled_figure (codes "dird_peer_messages_sent_total") (codes "Messages that were taken from the queue to be sent to it.")
+    labelled_figure (codes "dird_peer_messages_sent_total")
+    (codes "Messages that were taken from the queue to be sent to it.")
     (codes "counter") (codes "peer") k.sent.items
 
 -- the last log entry that each other replica has acknowledged
 abbrev pub acknowledged_text : PeerCounts → List ℕ
 acknowledged_text k =
-    labelled_figure (codes "dird_peer_acknowledged") (codes "The last log entry that it has acknowledged to this replica, by its number.")
+    labelled_figure (codes "dird_peer_acknowledged")
+    (codes "The last log entry that it has acknowledged to this replica, by its number.")
     (codes "gauge") (codes "peer") k.acknowledged.items
 
 -- the starts of each other replica that were refused
 abbrev pub refused_text : PeerCounts → List ℕ
 refused_text k =
-    labelled_figure (codes "dird_peer_starts_refused_total") (codes "Starts of it that were refused, since their files are older than what it said.")
+    labelled_figure (codes "dird_peer_starts_refused_total")
+    (codes "Starts of it that were refused, since their files are older than what it said.")
     (codes "counter") (codes "peer") k.refused.items
 
 -- the other replicas that are heard
@@ -122,7 +133,8 @@ connected_text k =
 -- when each was heard last
 abbrev pub heard_text : PeerCounts → List ℕ
 heard_text k =
-    labelled_figure (codes "dird_peer_last_heard_timestamp_seconds") (codes "When it was heard last, in seconds since 1970; 0 for never.")
+    labelled_figure (codes "dird_peer_last_heard_timestamp_seconds")
+    (codes "When it was heard last, in seconds since 1970; 0 for never.")
     (codes "gauge") (codes "peer") k.heard.items
 
 -- the octets that went to each
@@ -163,20 +175,23 @@ others_text k =
 abbrev pub request_samples : Histograms → List ℕ
 request_samples k =
     histogram_samples (codes "dird_request_seconds") (codes "kind=\"search\",") (codes "{kind=\"search\"}") k.searches
-    ++ histogram_samples (codes "dird_request_seconds") (codes "kind=\"compare\",") (codes "{kind=\"compare\"}") k.compares
+    ++ histogram_samples (codes "dird_request_seconds") (codes "kind=\"compare\",") (codes "{kind=\"compare\"}")
+    k.compares
     ++ histogram_samples (codes "dird_request_seconds") (codes "kind=\"update\",") (codes "{kind=\"update\"}") k.updates
 
 -- how long requests took
 abbrev pub requests_text : Histograms → List ℕ
 requests_text k =
-    figure (codes "dird_request_seconds") (codes "How long requests took, in seconds; an update until it was committed.")
+    figure (codes "dird_request_seconds")
+    (codes "How long requests took, in seconds; an update until it was committed.")
     (codes "histogram")
     (request_samples k)
 
 -- how long batches of events took
 abbrev pub batches_text : Histograms → List ℕ
 batches_text k =
-    figure (codes "dird_batch_seconds") (codes "How long batches of events took with a journal, in seconds: their steps, a write and a sync.")
+    figure (codes "dird_batch_seconds")
+    (codes "How long batches of events took with a journal, in seconds: their steps, a write and a sync.")
     (codes "histogram")
     (histogram_samples (codes "dird_batch_seconds") [] [] k.batches)
 
@@ -191,7 +206,8 @@ abbrev pub resources_text : ProcessCounts → List ℕ
 resources_text k =
     figure (codes "process_resident_memory_bytes") (codes "Octets of memory that the process has.") (codes "gauge")
     (optional_sample (codes "process_resident_memory_bytes") k.memory)
-    ++ figure (codes "process_cpu_seconds_total") (codes "Seconds of processors that the process took.") (codes "counter")
+    ++ figure (codes "process_cpu_seconds_total") (codes "Seconds of processors that the process took.")
+    (codes "counter")
     (optional_scaled_sample (codes "process_cpu_seconds_total") k.processors (codes "e-2"))
     ++ figure (codes "process_open_fds") (codes "How many descriptors the process has open.") (codes "gauge")
     (optional_sample (codes "process_open_fds") k.descriptors)
@@ -205,7 +221,8 @@ kept_text k =
     (sample (codes "process_start_time_seconds") k.began)
     ++ figure (codes "dird_journal_bytes") (codes "Octets of the file of the journal.") (codes "gauge")
     (optional_sample (codes "dird_journal_bytes") k.journal)
-    ++ figure (codes "dird_log_lines_dropped_total") (codes "Lines that were not written on standard error, since nobody read it.") (codes "counter")
+    ++ figure (codes "dird_log_lines_dropped_total")
+    (codes "Lines that were not written on standard error, since nobody read it.") (codes "counter")
     (sample (codes "dird_log_lines_dropped_total") k.dropped_lines)
 
 -- the process

@@ -80,7 +80,8 @@ build_sample version b =
 -- how the program was built
 abbrev pub build_text : List ℕ → Build → List ℕ
 build_text version b =
-    figure (codes "dird_build_info") (codes "The program's version, and whether its proofs were checked.") (codes "gauge")
+    figure (codes "dird_build_info") (codes "The program's version, and whether its proofs were checked.")
+    (codes "gauge")
     (build_sample version b)
 
 -- whether the replica is in touch with a majority, as far as it is the primary and needs one
@@ -107,7 +108,8 @@ replica_text f =
 abbrev pub state_text : List ℕ → Figures → List ℕ
 state_text version f =
     build_text version f.build
-    ++ figure (codes "dird_quorum") (codes "0 where the replica is the primary and hears from no majority, else 1.") (codes "gauge")
+    ++ figure (codes "dird_quorum") (codes "0 where the replica is the primary and hears from no majority, else 1.")
+    (codes "gauge")
     (sample (codes "dird_quorum") (quorum f.trouble))
 
 -- how much a replica keeps
@@ -134,7 +136,8 @@ resuming_text n whole what =
 -- whether the replica serves clients: not before its start is over, then by its role
 abbrev pub ready_since : Method → Start → Role → List ℕ
 ready_since how start.Over role =
-    response how (if serves role then codes "200 OK" else codes "503 Service Unavailable") (role_word role ++ codes "\n")
+    response how (if serves role then codes "200 OK" else codes "503 Service Unavailable")
+    (role_word role ++ codes "\n")
 ready_since how (start.Reading n whole) role = unavailable how (resuming_text n whole (codes "octets"))
 ready_since how (start.Resuming n whole) role = unavailable how (resuming_text n whole (codes "records"))
 

@@ -73,7 +73,8 @@ abbrev pub bucket_sample : List ℕ → List ℕ → Bucket → List ℕ
 bucket_sample name front b =
     sample (name ++ codes "_bucket{" ++ front ++ codes "le=\"" ++ bound_word b.bound ++ codes "\"}") b.number
 
--- the samples of a histogram: its buckets, the sum of the seconds, and how often; `labels` has the other labels in braces
+-- the samples of a histogram: its buckets, the sum of the seconds, and how often; `labels` has the other labels in
+-- braces
 abbrev pub histogram_samples : List ℕ → List ℕ → List ℕ → Histogram → List ℕ
 histogram_samples name front labels t =
     flat_map (bucket_sample name front) t.buckets.items

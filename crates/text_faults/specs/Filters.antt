@@ -7,7 +7,8 @@ use Rattle.text_faults.specs.declared.filters.Place.{Place}
 use Rattle.text_faults.specs.declared.filters.Place.TheVariants as place
 use Rattle.text_faults.specs.Words.{octet_shown}
 
--- the place behind an octet, which is of this index: '&' and '|' begin a row of filters, '!' a negation, all else an item,
+-- the place behind an octet, which is of this index: '&' and '|' begin a row of filters, '!' a negation, all else an
+-- item,
 -- which ends at its ')'
 abbrev pub place_after : Place → ℕ → ℕ → Place
 place_after place.Opening index octet = place.Inside
@@ -20,7 +21,8 @@ place_after place.Behind index octet = cond (nat_eq octet 40) place.Inside place
 abbrev pub around_after : Place → ℕ → List Around → List Around
 around_after place.Opening octet outer = outer
 around_after place.Inside octet outer =
-    cond (nat_eq octet 38 || nat_eq octet 124) (outer ++ around.Row ∷ []) (cond (nat_eq octet 33) (outer ++ around.Negation ∷ []) outer)
+    cond (nat_eq octet 38 || nat_eq octet 124) (outer ++ around.Row ∷ [])
+    (cond (nat_eq octet 33) (outer ++ around.Negation ∷ []) outer)
 around_after (place.InItem start) octet outer = outer
 around_after place.Behind octet outer = cond (nat_eq octet 40) outer (take (length outer - 1) outer)
 
@@ -102,6 +104,7 @@ found_shown (Some octet) = codes "'" ++ octet_shown octet ++ codes "'"
 abbrev pub filter_sentence : List ℕ → ℕ → List ℕ
 filter_sentence text at =
     codes "expected "
-    ++ wanted_at (place_behind 0 place.Opening (take at text)) (around_behind 0 place.Opening [] (take at text)) (take at text)
+    ++ wanted_at (place_behind 0 place.Opening (take at text)) (around_behind 0 place.Opening [] (take at text))
+    (take at text)
     (slice_get text at)
     ++ codes ", found " ++ found_shown (slice_get text at)

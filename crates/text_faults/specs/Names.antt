@@ -59,7 +59,8 @@ first_wrong s (part ∷ parts) = cond (is_right s part) (first_wrong s parts) (S
 -- an octet that a value has only behind a backslash: '"', '+', ',', ';', '<', '>' and NUL (RFC 4514 2.4)
 abbrev pub is_mark : ℕ → Bool
 is_mark octet =
-    nat_eq octet 34 || nat_eq octet 43 || nat_eq octet 44 || nat_eq octet 59 || nat_eq octet 60 || nat_eq octet 62 || nat_eq octet 0
+    nat_eq octet 34 || nat_eq octet 43 || nat_eq octet 44 || nat_eq octet 59 || nat_eq octet 60 || nat_eq octet 62 ||
+    nat_eq octet 0
 
 -- such an octet, not escaped
 abbrev pub is_bare_mark : ℕ × Bool → Bool
@@ -79,7 +80,8 @@ lacks_equality name = codes "'" ++ word_shown name ++ codes "' has no EQUALITY, 
 
 -- a value that its type doesn't have in a name
 abbrev pub none_of_type : List ℕ → List ℕ → List ℕ
-none_of_type name value = codes "'" ++ word_shown value ++ codes "' is no value of '" ++ word_shown name ++ codes "' in a name"
+none_of_type name value = codes "'" ++ word_shown value ++ codes "' is no value of '" ++ word_shown name ++ codes
+    "' in a name"
 
 -- a value without a key in a name: its type lacks EQUALITY, or has no key for this value
 abbrev pub no_value : SchemaModel → ℕ → List ℕ → List ℕ → List ℕ
@@ -98,7 +100,8 @@ bad_value s t name value =
 
 -- a name of a type, or of none, and a value, which are this pair
 abbrev pub bad_typed : SchemaModel → List ℕ → Option ℕ → List ℕ → List ℕ → List ℕ
-bad_typed s pair None name value = codes "no attribute type '" ++ word_shown name ++ codes "' (in '" ++ word_shown (trimmed pair) ++ codes "')"
+bad_typed s pair None name value = codes "no attribute type '" ++ word_shown name ++ codes "' (in '" ++ word_shown
+    (trimmed pair) ++ codes "')"
 bad_typed s pair (Some t) name value = bad_value s t name value
 
 -- a type's name and a value, which are this pair
@@ -115,7 +118,8 @@ abbrev pub bad_pair : SchemaModel → List ℕ → List ℕ
 bad_pair s pair =
     cond (is_blank pair) (codes "an empty part: expected 'type=value'")
     (cond (is_none (tokens_of pair))
-    (codes "a backslash in '" ++ word_shown (trimmed pair) ++ codes "' has no mark and no two hexadecimal digits behind it")
+    (codes "a backslash in '" ++ word_shown (trimmed pair) ++ codes
+    "' has no mark and no two hexadecimal digits behind it")
     (bad_cut s pair (position (λ octet. nat_eq octet 61) pair)))
 
 -- a relative name, by its first pair that is wrong
@@ -139,4 +143,5 @@ bad_name_by s text (Some rdn) = bad_rdn s rdn
 -- what a sentence says of a text that is no entry's name
 abbrev pub name_sentence : SchemaModel → List ℕ → List ℕ
 name_sentence s text =
-    cond (is_blank text) (codes "the name is empty, and names no entry") (bad_name_by s text (first_wrong s (parts_of 44 text)))
+    cond (is_blank text) (codes "the name is empty, and names no entry")
+    (bad_name_by s text (first_wrong s (parts_of 44 text)))

@@ -44,4 +44,5 @@ line_sentence word None =
 -- what a sentence says of a line of this number, counted from 1
 abbrev pub script_sentence : List ℕ → ℕ → List ℕ
 script_sentence line number =
-    cond (nat_eq number 1) (codes "expected 'replicas 3', 5 or 7") (line_sentence (first_word line) (form_of forms (first_word line)))
+    cond (nat_eq number 1) (codes "expected 'replicas 3', 5 or 7") (line_sentence (first_word line)
+    (form_of forms (first_word line)))

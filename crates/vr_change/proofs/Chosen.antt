@@ -13,7 +13,8 @@ indices_from : (j n : ℕ) → j < n → drop j (indices n) ≡ j ∷ drop (suc 
 indices_from j zero h = absurd (omega arith)
 indices_from j (suc n) h = go (indices_from j n) (cases_lt j n)
   where
-    go : (j < n → drop j (indices n) ≡ j ∷ drop (suc j) (indices n)) → (j < n) ⊎ (n ≤ j) → drop j (indices n ++ n ∷ []) ≡ j ∷ drop (suc j) (indices n ++ n ∷ [])
+    go : (j < n → drop j (indices n) ≡ j ∷ drop (suc j) (indices n)) → (j < n) ⊎ (n ≤ j) →
+        drop j (indices n ++ n ∷ []) ≡ j ∷ drop (suc j) (indices n ++ n ∷ [])
     go ih (inl lt) =
         drop-append-le j (indices n) (n ∷ []) (omega (arith, length_indices n))
         ∙ ap (λ l. l ++ n ∷ []) (ih lt)
@@ -24,31 +25,40 @@ indices_from j (suc n) h = go (indices_from j n) (cases_lt j n)
         let same : n ≡ j = omega arith in
         ap (λ (k : ℕ). drop k (indices n ++ n ∷ [])) here ∙ drop-append_seam (indices n) (n ∷ [])
         ∙ ap (λ k. k ∷ []) same
-        ∙ ap (λ l. j ∷ l) (sym (ap (λ (k : ℕ). drop k (indices n ++ n ∷ [])) past ∙ drop-append-add (indices n) (n ∷ []) 1))
+        ∙ ap (λ l. j ∷ l) (sym (ap (λ (k : ℕ). drop k (indices n ++ n ∷ [])) past ∙ drop-append-add (indices n)
+        (n ∷ []) 1))
 
 -- The best of one more, which comes before the rest.
-pub best_with : {P : Type 0} (xs : List (ℕ × Change P)) (k m n : ℕ) (b : Option (Change P)) → b ≡ best xs (drop m (indices n)) → m ≡ k + 1 → k < n → prefer (noted k xs) b ≡ best xs (drop k (indices n))
+pub best_with : {P : Type 0} (xs : List (ℕ × Change P)) (k m n : ℕ) (b : Option (Change P)) →
+    b ≡ best xs (drop m (indices n)) → m ≡ k + 1 → k < n → prefer (noted k xs) b ≡ best xs (drop k (indices n))
 best_with {P} xs k m n b h e lt =
     let next : m ≡ suc k = omega arith in
-    ap (prefer (noted k xs)) (h ∙ ap (λ (j : ℕ). best xs (drop j (indices n))) next) ∙ sym (ap (best xs) (indices_from k n lt))
+    ap (prefer (noted k xs)) (h ∙ ap (λ (j : ℕ). best xs (drop j (indices n))) next)
+    ∙ sym (ap (best xs) (indices_from k n lt))
 
 -- the most goes on with one at the end
-most_end : {P : Type 0} (xs : List (ℕ × Change P)) (js : List ℕ) (k : ℕ) → most xs (js ++ k ∷ []) ≡ max (commit_of (noted k xs)) (most xs js)
+most_end : {P : Type 0} (xs : List (ℕ × Change P)) (js : List ℕ) (k : ℕ) → most xs (js ++ k ∷ []) ≡
+    max (commit_of (noted k xs)) (most xs js)
 most_end xs [] k = refl
-most_end {P} xs (j ∷ js) k = ap (max (commit_of (noted j xs))) (most_end xs js k) ∙ swapped (commit_of (noted j xs)) (commit_of (noted k xs)) (most xs js)
+most_end {P} xs (j ∷ js) k = ap (max (commit_of (noted j xs))) (most_end xs js k) ∙ swapped (commit_of (noted j xs))
+    (commit_of (noted k xs)) (most xs js)
   where
     swapped : (a b m : ℕ) → max a (max b m) ≡ max b (max a m)
     swapped a b m = omega arith
 
 -- The most of one more, of whom something is noted.
-pub most_with : {P : Type 0} (xs : List (ℕ × Change P)) (k m : ℕ) (d : Change P) → m ≡ most xs (indices k) → Some d ≡ noted k xs → max d.commit_number m ≡ most xs (indices (k + 1))
+pub most_with : {P : Type 0} (xs : List (ℕ × Change P)) (k m : ℕ) (d : Change P) → m ≡ most xs (indices k) →
+    Some d ≡ noted k xs → max d.commit_number m ≡ most xs (indices (k + 1))
 most_with {P} xs k m d h e =
-    ap (max d.commit_number) h ∙ ap (λ o. max (commit_of o) (most xs (indices k))) e ∙ sym (ap (most xs) (indices_more k) ∙ most_end xs (indices k) k)
+    ap (max d.commit_number) h ∙ ap (λ o. max (commit_of o) (most xs (indices k))) e
+    ∙ sym (ap (most xs) (indices_more k) ∙ most_end xs (indices k) k)
 
 -- The most of one more, of whom nothing is noted.
-pub most_without : {P : Type 0} (xs : List (ℕ × Change P)) (k m : ℕ) → m ≡ most xs (indices k) → None ≡ noted k xs → m ≡ most xs (indices (k + 1))
+pub most_without : {P : Type 0} (xs : List (ℕ × Change P)) (k m : ℕ) → m ≡ most xs (indices k) → None ≡ noted k xs →
+    m ≡ most xs (indices (k + 1))
 most_without {P} xs k m h e =
-    h ∙ zero_is (most xs (indices k)) ∙ ap (λ o. max (commit_of o) (most xs (indices k))) e ∙ sym (ap (most xs) (indices_more k) ∙ most_end xs (indices k) k)
+    h ∙ zero_is (most xs (indices k)) ∙ ap (λ o. max (commit_of o) (most xs (indices k))) e
+    ∙ sym (ap (most xs) (indices_more k) ∙ most_end xs (indices k) k)
   where
     zero_is : (x : ℕ) → x ≡ max 0 x
     zero_is x = omega arith

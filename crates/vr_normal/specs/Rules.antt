@@ -29,7 +29,8 @@ acknowledging acknowledged i x = count (λ k. nat_le x (slice_index acknowledged
 -- The greatest number of records that half of all, rounded down, have beside i; 0 if there is none (VRR 4.1, step 5).
 abbrev pub reached_beside : List ℕ → ℕ → ℕ
 reached_beside acknowledged i =
-    rules.reached (length acknowledged / 2) acknowledged (others (length acknowledged) i) (others (length acknowledged) i)
+    rules.reached (length acknowledged / 2) acknowledged (others (length acknowledged) i)
+    (others (length acknowledged) i)
 
 -- A COMMIT(v, x) comes (VRR 4.1, steps 6 and 7).
 abbrev pub on_commit_at : {P : Type 0} → Replica P → ℕ → ℕ → ℕ → Outcome P

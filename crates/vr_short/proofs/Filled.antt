@@ -11,7 +11,8 @@ whole : {A : Type 0} (x : ℕ) (own l : List A) → take x own ≡ take x l → 
 whole x own l e = ap (λ t. t ++ drop x l) e ∙ take-append-drop x l
 
 -- the message
-pub refilled : {P : Type 0} (x : ℕ) (own : List (LogEntry P)) (m : PeerMessage P) → take x own ≡ take x (log_in m) → filled x own (shortened x m) ≡ m
+pub refilled : {P : Type 0} (x : ℕ) (own : List (LogEntry P)) (m : PeerMessage P) → take x own ≡ take x (log_in m) →
+    filled x own (shortened x m) ≡ m
 refilled x own (DoViewChange v c) e = ap (λ l. DoViewChange v (record c { log = l })) (whole x own c.log e)
 refilled x own (StartView v held) e = ap (λ l. StartView v (record held { log = l })) (whole x own held.log e)
 refilled x own (Prepare v f p k) e = refl

@@ -23,7 +23,8 @@ pub record MayLeaveOut {P : Type 0} (w : World P) (m : Message P) (r : State P) 
   pub there : x ≤ length (log_in m.body)
   pub receiver : x ≤ r.commit_number
 
--- Whatever happened, a message that was shortened, and is filled by a replica that has committed what was left out, is the message that was sent.
+-- Whatever happened, a message that was shortened, and is filled by a replica that has committed what was left out, is
+-- the message that was sent.
 abbrev pub FilledIsSent : Type 0 → Type 0
 FilledIsSent P = (n : ℕ) → IsSize n → (es : List (WorldEvent P)) (m : Message P) (r : State P) (x : ℕ) →
     MayLeaveOut (after n es) m r x → filled x r.log (shortened x m.body) ≡ m.body
@@ -32,9 +33,11 @@ FilledIsSent P = (n : ℕ) → IsSize n → (es : List (WorldEvent P)) (m : Mess
 abbrev pub ReadIsSent : Type 0
 ReadIsSent = (n : ℕ) → IsSize n → (es : List (WorldEvent OpValue)) (m : Message OpValue) (r : State OpValue) (x : ℕ) →
     MayLeaveOut (after n es) m r x → (cluster sender other speaker : ℕ) (read : PeerMessage OpValue) (octets : List ℕ) →
-    IsFrame cluster sender (shortened x m.body) octets → IsFrame other speaker read octets → filled x r.log read ≡ m.body
+    IsFrame cluster sender (shortened x m.body) octets → IsFrame other speaker read octets → filled x r.log read ≡
+    m.body
 
 -- A note is 13 octets by which it is known, and eight that are read as its number.
 abbrev pub NotesAreRead : Type 0
 NotesAreRead = (cluster sender n : ℕ) → n < 2 ^ 64 →
-    (take 13 (note_octets cluster sender n) ≡ note_heading cluster sender) × (from_be_bytes w64 (drop 13 (note_octets cluster sender n)) ≡ n)
+    (take 13 (note_octets cluster sender n) ≡ note_heading cluster sender)
+    × (from_be_bytes w64 (drop 13 (note_octets cluster sender n)) ≡ n)

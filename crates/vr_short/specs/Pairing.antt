@@ -4,7 +4,8 @@ use Rattle.vr_state.specs.declared.message.PeerMessage.{PeerMessage}
 use Rattle.vr_state.specs.declared.message.PeerMessage.TheVariants.{StartViewChange, DoViewChange, StartView}
 use Rattle.vr_short.specs.Short.{left_out}
 
--- The number that goes with a message to a replica that has said that it has committed so much, from one that has committed so much itself.
+-- The number that goes with a message to a replica that has said that it has committed so much, from one that has
+-- committed so much itself.
 abbrev pub note_of : {P : Type 0} → ℕ → ℕ → PeerMessage P → Option ℕ
 note_of said committed (StartViewChange v) = Some committed
 note_of said committed (DoViewChange v c) = Some (left_out said (DoViewChange v c))
@@ -35,14 +36,17 @@ newest (Some n) before = Some n
 newest None before = before
 
 -- a message with the note that it is taken with, before others, if a number goes with it
-abbrev pub with_note : {P : Type 0} → Option ℕ → PeerMessage P → List (Option ℕ × PeerMessage P) → List (Option ℕ × PeerMessage P)
+abbrev pub with_note : {P : Type 0} → Option ℕ → PeerMessage P → List (Option ℕ × PeerMessage P) →
+    List (Option ℕ × PeerMessage P)
 with_note n m rest = cond (is_noted m) ((n, m) ∷ rest) rest
 
--- What a receiver takes for the note of each message that comes: the last that came before it and after the message before.
+-- What a receiver takes for the note of each message that comes: the last that came before it and after the message
+-- before.
 abbrev pub paired : {P : Type 0} → Option ℕ → List (Sending P) → List (Option ℕ × PeerMessage P)
 paired before [] = []
 paired before (s ∷ ss) =
-    cond s.comes (with_note (newest (own_note s) before) s.message (paired None ss)) (paired (newest (own_note s) before) ss)
+    cond s.comes (with_note (newest (own_note s) before) s.message (paired None ss))
+    (paired (newest (own_note s) before) ss)
 
 -- each message that comes, with its own note
 abbrev pub own_pairs : {P : Type 0} → List (Sending P) → List (Option ℕ × PeerMessage P)

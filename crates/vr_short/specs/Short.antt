@@ -17,7 +17,8 @@ has_log (DoViewChange v c) = true
 has_log (StartView v held) = true
 has_log _ = false
 
--- How many records are left out of a message to a replica that has said that it has committed k: no more than the sender has committed, and than there are.
+-- How many records are left out of a message to a replica that has said that it has committed k: no more than the
+-- sender has committed, and than there are.
 abbrev pub left_out : {P : Type 0} → ℕ → PeerMessage P → ℕ
 left_out k m = min k (min (committed_in m) (length (log_in m)))
 
@@ -33,6 +34,7 @@ filled x own m = with_log (take x own ++ log_in m) m
 abbrev pub has_first : {P : Type 0} → ℕ → ℕ → List (LogEntry P) → Bool
 has_first x committed own = nat_le x committed && nat_le x (length own)
 
--- What a receiver makes of a message without the first x records of its log: the whole message, or nothing where it lacks some of these.
+-- What a receiver makes of a message without the first x records of its log: the whole message, or nothing where it
+-- lacks some of these.
 abbrev pub taken_as : {P : Type 0} → ℕ → ℕ → List (LogEntry P) → PeerMessage P → Option (PeerMessage P)
 taken_as x committed own m = cond (not (has_log m) || has_first x committed own) (Some (filled x own m)) None

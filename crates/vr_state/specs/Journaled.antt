@@ -5,7 +5,8 @@ use Rattle.vr_state.specs.State.{State, LogEntry, is_normal, is_recovering}
 use Rattle.vr_state.specs.Step.{Event, step}
 use Rattle.vr_state.specs.StepLaw.{brings_tail}
 
--- One note: a view was entered; a record was appended; a record waits to be adopted; a log was adopted: its first base records stay, and those
+-- One note: a view was entered; a record was appended; a record waits to be adopted; a log was adopted: its first base
+-- records stay, and those
 -- that wait come behind them. k is how much is known to be committed.
 pub data Note (P : Type 0) : Type 0 where
   Enter : (view : ℕ) → Note P
@@ -27,7 +28,15 @@ abbrev pub noted_by : {P : Type 0} → Kept P → Note P → Kept P
 noted_by h (Enter v) = record h { view = v; staged = [] }
 noted_by h (Record k e) = record h { log = h.log ++ e ∷ []; k = max h.k k; staged = [] }
 noted_by h (Stage e) = record h { staged = h.staged ++ e ∷ [] }
-noted_by h (Adopt v last base k) = record { view = v; last = last; log = take base h.log ++ h.staged; k = max h.k k; staged = []; whole = true }
+noted_by h (Adopt v last base k) = record {
+  view = v;
+  last = last;
+  log = take base h.log ++ h.staged;
+  k =
+      max h.k k;
+  staged = [];
+  whole = true;
+}
 
 -- after these notes
 abbrev pub after_notes : {P : Type 0} → Kept P → List (Note P) → Kept P
@@ -51,7 +60,8 @@ pub record IsKeptOf {P : Type 0} (h : Kept P) (r : State P) : Type 0 where
   pub low : h.k ≤ r.commit_number
   pub whole : h.whole ≡ not (is_recovering r.status)
 
--- A step is journaled: after all its notes the replica is kept as it is after the step, and after some first of them as it is before or after.
+-- A step is journaled: after all its notes the replica is kept as it is after the step, and after some first of them as
+-- it is before or after.
 pub record IsJournaled {P : Type 0} (h : Kept P) (r s : State P) (notes : List (Note P)) : Type 0 where
   pub all : IsKeptOf (after_notes h notes) s
   pub none_waits : (after_notes h notes).staged ≡ []
@@ -59,8 +69,10 @@ pub record IsJournaled {P : Type 0} (h : Kept P) (r s : State P) (notes : List (
 
 -- Each step is journaled.
 abbrev pub StepsAreJournaled : Type 0 → Type 0
-StepsAreJournaled P = (n i : ℕ) (r : State P) (e : Event P) (base : ℕ) → take base r.log ≡ take base (step n i r e).state.log →
-    (h : Kept P) → IsKeptOf h r → h.staged ≡ [] → IsJournaled h r (step n i r e).state (notes_of r (step n i r e).state e base)
+StepsAreJournaled P = (n i : ℕ) (r : State P) (e : Event P) (base : ℕ) → take base r.log ≡
+    take base (step n i r e).state.log →
+    (h : Kept P) → IsKeptOf h r → h.staged ≡ [] → IsJournaled h r (step n i r e).state
+    (notes_of r (step n i r e).state e base)
 
 -- the state after these events; beside each stands how much of the log stays alike in its step
 abbrev pub after_events : {P : Type 0} → ℕ → ℕ → State P → List (Event P × ℕ) → State P
@@ -75,17 +87,20 @@ notes_of_all n i r (x ∷ xs) = notes_of r (step n i r x.0).state x.0 x.1 ++ not
 -- In each step so many first records stay alike.
 abbrev pub StayAlike : {P : Type 0} → ℕ → ℕ → State P → List (Event P × ℕ) → Type 0
 StayAlike n i r [] = Unit {0}
-StayAlike n i r (x ∷ xs) = (take x.1 r.log ≡ take x.1 (step n i r x.0).state.log) × StayAlike n i (step n i r x.0).state xs
+StayAlike n i r (x ∷ xs) = (take x.1 r.log ≡ take x.1 (step n i r x.0).state.log)
+    × StayAlike n i (step n i r x.0).state xs
 
 -- What is kept is of the replica after some first of these events.
 pub record IsKeptOfSome {P : Type 0} (n i : ℕ) (r : State P) (xs : List (Event P × ℕ)) (h : Kept P) : Type 0 where
   pub count : ℕ
   pub kept : IsKeptOf h (after_events n i r (take count xs))
 
--- A batch of events is journaled: all its notes keep the replica as it is after all of them, and some first of its notes as it is after some first
+-- A batch of events is journaled: all its notes keep the replica as it is after all of them, and some first of its
+-- notes as it is after some first
 -- of them.
 abbrev pub BatchesAreJournaled : Type 0 → Type 0
-BatchesAreJournaled P = (n i : ℕ) (r : State P) (xs : List (Event P × ℕ)) → StayAlike n i r xs → (h : Kept P) → IsKeptOf h r → h.staged ≡ [] →
+BatchesAreJournaled P = (n i : ℕ) (r : State P) (xs : List (Event P × ℕ)) → StayAlike n i r xs → (h : Kept P) →
+    IsKeptOf h r → h.staged ≡ [] →
     IsKeptOf (after_notes h (notes_of_all n i r xs)) (after_events n i r xs)
     × ((after_notes h (notes_of_all n i r xs)).staged ≡ [])
     × ((m : ℕ) → IsKeptOfSome n i r xs (after_notes h (take m (notes_of_all n i r xs))))

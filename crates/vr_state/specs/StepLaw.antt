@@ -27,12 +27,14 @@ CommitsRise P = (n i : ℕ) (r : State P) (e : Event P) → r.commit_number ≤ 
 
 -- A replica that isn't normal after a step has the log that it had: hearing of a later view cuts nothing.
 abbrev pub LogIsKept : Type 0 → Type 0
-LogIsKept P = (n i : ℕ) (r : State P) (e : Event P) → is_normal (step n i r e).state.status ≡ false → (step n i r e).state.log ≡ r.log
+LogIsKept P = (n i : ℕ) (r : State P) (e : Event P) → is_normal (step n i r e).state.status ≡ false →
+    (step n i r e).state.log ≡ r.log
 
 -- While a replica is normal in one view, its log gets no shorter.
 abbrev pub LogOnlyGrows : Type 0 → Type 0
 LogOnlyGrows P = (n i : ℕ) (r : State P) (e : Event P) →
-    is_normal r.status ≡ true → (step n i r e).state.view_number ≡ r.view_number → length r.log ≤ length (step n i r e).state.log
+    is_normal r.status ≡ true → (step n i r e).state.view_number ≡ r.view_number →
+    length r.log ≤ length (step n i r e).state.log
 
 -- The event is a NEWSTATE.
 abbrev pub brings_tail : {P : Type 0} → Event P → Bool
@@ -52,7 +54,8 @@ LogGoesOn P = (n i : ℕ) (r : State P) (e : Event P) → brings_tail e ≡ fals
 -- A replica that isn't normal after a step has the last normal view that it had, and recovers if and only if it did.
 abbrev pub LastIsKept : Type 0 → Type 0
 LastIsKept P = (n i : ℕ) (r : State P) (e : Event P) → is_normal (step n i r e).state.status ≡ false →
-    ((step n i r e).state.last_normal_view ≡ r.last_normal_view) × (is_recovering (step n i r e).state.status ≡ is_recovering r.status)
+    ((step n i r e).state.last_normal_view ≡ r.last_normal_view) × (is_recovering (step n i r e).state.status ≡
+    is_recovering r.status)
 
 -- A replica that recovers after a step is in the view that it had: only the end of its recovery moves it to another.
 abbrev pub RecoversInItsView : Type 0 → Type 0
@@ -78,10 +81,12 @@ RepeatsChangeNothing P = (n i : ℕ) (r : State P) (e : LogEntry P) (last : Late
 abbrev pub CommitsAreAcknowledged : Type 0 → Type 0
 CommitsAreAcknowledged P = (n i : ℕ) (r : State P) (from v p : ℕ) →
     let s = (on_prepare_ok n i r from v p).state in
-    (s.commit_number ≡ r.commit_number) ⊎ (n / 2 ≤ count (λ j. nat_le s.commit_number (slice_index s.acknowledged j)) (others n i))
+    (s.commit_number ≡ r.commit_number) ⊎ (n / 2 ≤ count (λ j. nat_le s.commit_number (slice_index s.acknowledged j))
+    (others n i))
 
 -- The log that a new primary takes is of the latest normal view among those noted, and the longest of that view.
 abbrev pub BestIsTaken : Type 0 → Type 0
 BestIsTaken P = (xs : List (ℕ × Change P)) (js : List ℕ) (c : Change P) → best xs js ≡ Some c →
     (j : ℕ) (d : Change P) → In j js → noted j xs ≡ Some d →
-    (d.last_normal_view < c.last_normal_view) ⊎ ((d.last_normal_view ≡ c.last_normal_view) × (length d.log ≤ length c.log))
+    (d.last_normal_view < c.last_normal_view) ⊎ ((d.last_normal_view ≡ c.last_normal_view)
+    × (length d.log ≤ length c.log))

@@ -38,7 +38,8 @@ record IsBeginning (cluster : ℕ) (first : List ℕ) : Type 0 where
   kind_is : is_kind kind ≡ true
   cluster_is : IsCluster cluster
 
-any_begins : (cluster : ℕ) (first octets : List ℕ) → Begins first octets → IsAnyFrame cluster octets → IsBeginning cluster first
+any_begins : (cluster : ℕ) (first octets : List ℕ) → Begins first octets → IsAnyFrame cluster octets →
+    IsBeginning cluster first
 any_begins cluster first octets begins (inl f) =
     record {
       kind = kind_of f.2.raw;
@@ -56,23 +57,28 @@ any_begins cluster first octets begins (inr p) =
       cluster_is = p.1.cluster_is;
     }
 
-heading_again : (cluster kind sender : ℕ) → IsCluster cluster → is_kind kind ≡ true → heading_of (first_octets cluster kind sender) ≡ Some (cluster, (kind, sender))
+heading_again : (cluster kind sender : ℕ) → IsCluster cluster → is_kind kind ≡ true →
+    heading_of (first_octets cluster kind sender) ≡ Some (cluster, (kind, sender))
 heading_again cluster kind sender h k =
     let least : nat_lt 0 cluster ≡ true = lt-ltb 0 cluster (omega (arith, h.0)) in
     ap (λ (n : ℕ). heading_by n (first_octets cluster kind sender)) (read_cluster cluster h.1)
     ∙ rw (least, k) refl
 
 -- where the octets tell nothing, no frame begins so
-pub tells_nothing : (first : List ℕ) → heading_of first ≡ None → (other : ℕ) (octets : List ℕ) → Begins first octets → IsAnyFrame other octets → ⊥
+pub tells_nothing : (first : List ℕ) → heading_of first ≡ None → (other : ℕ) (octets : List ℕ) → Begins first octets →
+    IsAnyFrame other octets → ⊥
 tells_nothing first none other octets begins any =
     let b = any_begins other first octets begins any in
-    not_some (other, (b.kind, b.sender)) (heading_of first) none (ap heading_of b.octets ∙ heading_again other b.kind b.sender b.cluster_is b.kind_is)
+    not_some (other, (b.kind, b.sender)) (heading_of first) none (ap heading_of b.octets ∙ heading_again other b.kind
+    b.sender b.cluster_is b.kind_is)
 
 -- where they tell another cluster, no frame of this one begins so
-pub tells_another : (first : List ℕ) (said : ℕ × (ℕ × ℕ)) (cluster : ℕ) → heading_of first ≡ Some said → (said.0 ≡ cluster → ⊥) → (octets : List ℕ) → Begins first octets → IsAnyFrame cluster octets → ⊥
+pub tells_another : (first : List ℕ) (said : ℕ × (ℕ × ℕ)) (cluster : ℕ) → heading_of first ≡ Some said →
+    (said.0 ≡ cluster → ⊥) → (octets : List ℕ) → Begins first octets → IsAnyFrame cluster octets → ⊥
 tells_another first said cluster tells differs octets begins any =
     let b = any_begins cluster first octets begins any in
-    let same = some_is said (cluster, (b.kind, b.sender)) (sym tells ∙ ap heading_of b.octets ∙ heading_again cluster b.kind b.sender b.cluster_is b.kind_is) in
+    let same = some_is said (cluster, (b.kind, b.sender)) (sym tells ∙ ap heading_of b.octets
+    ∙ heading_again cluster b.kind b.sender b.cluster_is b.kind_is) in
     differs (ap (λ (p : ℕ × (ℕ × ℕ)). p.0) same)
 
 nine : (o : List ℕ) → length o ≡ 9 → o ≡ slice_index o 0 ∷ (take 6 (drop 1 o) ++ slice_index o 7 ∷ slice_index o 8 ∷ [])
@@ -92,7 +98,8 @@ six_there : (o : List ℕ) → length o ≡ 9 → length (take 6 (drop 1 o)) ≡
 six_there o len = omega (arith, length-take 6 (drop 1 o), length-drop 1 o, len)
 
 -- the octets are those of what they tell
-tells : (first : List ℕ) (said : ℕ × (ℕ × ℕ)) → length first ≡ 9 → IsBytes first → heading_of first ≡ Some said → (first ≡ first_octets said.0 said.1.0 said.1.1) × (is_kind said.1.0 ≡ true)
+tells : (first : List ℕ) (said : ℕ × (ℕ × ℕ)) → length first ≡ 9 → IsBytes first → heading_of first ≡ Some said →
+    (first ≡ first_octets said.0 said.1.0 said.1.1) × (is_kind said.1.0 ≡ true)
 tells first said len fits e =
     let six = take 6 (drop 1 first) in
     let n = from_be_bytes w64 (0 ∷ 0 ∷ six) in
@@ -102,11 +109,14 @@ tells first said len fits e =
     let h = both_hold (slice_index first 0 == 2 && nat_lt 0 n) (is_kind k) g.0 in
     let v = both_hold (slice_index first 0 == 2) (nat_lt 0 n) h.0 in
     let version : slice_index first 0 ≡ 2 = eqb-true (slice_index first 0) 2 v.0 in
-    let spelled : cluster_octets n ≡ six = written_six six (six_there first len) (IsBytes-take 6 (drop 1 first) (IsBytes-drop 1 first fits)) in
+    let spelled : cluster_octets n ≡ six = written_six six (six_there first len) (IsBytes-take 6 (drop 1 first)
+    (IsBytes-drop 1 first fits)) in
     let whole : first ≡ first_octets n k s =
-    nine first len ∙ ap (λ (x : ℕ). x ∷ (six ++ k ∷ s ∷ [])) version ∙ ap (λ (l : List ℕ). 2 ∷ (l ++ k ∷ s ∷ [])) (sym spelled) in
+    nine first len ∙ ap (λ (x : ℕ). x ∷ (six ++ k ∷ s ∷ [])) version ∙ ap (λ (l : List ℕ). 2 ∷ (l ++ k ∷ s ∷ []))
+    (sym spelled) in
     subst (λ (p : ℕ × (ℕ × ℕ)). (first ≡ first_octets p.0 p.1.0 p.1.1) × (is_kind p.1.0 ≡ true)) g.1 (whole, h.1)
 
-pub told : (first : List ℕ) (said : Option (ℕ × (ℕ × ℕ))) → length first ≡ 9 → IsBytes first → said ≡ heading_of first → Tells said first
+pub told : (first : List ℕ) (said : Option (ℕ × (ℕ × ℕ))) → length first ≡ 9 → IsBytes first →
+    said ≡ heading_of first → Tells said first
 told first None len fits e = tt
 told first (Some said) len fits e = tells first said len fits (sym e)

@@ -77,7 +77,8 @@ body_octets (RecoveryResponse x a) = number a.view_number ++ number x ++ perhaps
 body_octets (GetState v k) = number v ++ number k
 body_octets (NewState v x tail) = number v ++ number tail.commit_number ++ number x ++ log_octets tail.log
 
--- what follows the length: version 2, the cluster's number in six octets, the kind, the sender's index, and the rest by kind
+-- what follows the length: version 2, the cluster's number in six octets, the kind, the sender's index, and the rest by
+-- kind
 abbrev pub rest_octets : ℕ → ℕ → PeerMessage (List ℕ) → List ℕ
 rest_octets cluster sender m = 2 ∷ (cluster_octets cluster ++ kind_of m ∷ sender ∷ body_octets m)
 
@@ -121,7 +122,8 @@ IsInRange (Prepare v e p k) = (v < 2 ^ 63) × (p < 2 ^ 63) × (k < 2 ^ 63) × Is
 IsInRange (PrepareOk v p) = (v < 2 ^ 63) × (p < 2 ^ 63)
 IsInRange (Commit v k) = (v < 2 ^ 63) × (k < 2 ^ 63)
 IsInRange (StartViewChange v) = v < 2 ^ 63
-IsInRange (DoViewChange v c) = (v < 2 ^ 63) × (c.last_normal_view < 2 ^ 63) × (c.commit_number < 2 ^ 63) × IsLogInRange c.log
+IsInRange (DoViewChange v c) = (v < 2 ^ 63) × (c.last_normal_view < 2 ^ 63) × (c.commit_number < 2 ^ 63)
+    × IsLogInRange c.log
 IsInRange (StartView v held) = (v < 2 ^ 63) × IsHeldInRange held
 IsInRange (Recovery x) = x < 2 ^ 63
 IsInRange (RecoveryResponse x a) = (a.view_number < 2 ^ 63) × (x < 2 ^ 63) × IsPerhapsInRange a.held

@@ -12,7 +12,8 @@ use Rattle.vr_wire.specs.Parts.{IsPart, IsSaying}
 
 -- the part is the next of the message that is gathered
 abbrev pub is_next : Heap → Portion (List ℕ) → Bool
-is_next g p = g.label.sender == p.label.sender && g.label.number == p.label.number && g.label.count == p.label.count && g.next == p.place
+is_next g p = g.label.sender == p.label.sender && g.label.number == p.label.number && g.label.count == p.label.count
+    && g.next == p.place
 
 -- a message begins with its part 0
 abbrev pub begun : Portion (List ℕ) → Heap
@@ -34,11 +35,13 @@ IsRead sender octets (Ok (came.Part speaker)) = ⊥
 IsRead sender octets (Ok (came.Dropped speaker)) = ⊥
 IsRead sender octets (Err e) = Refuses IsSaying e octets
 
--- what comes of a part: it's dropped; or it's kept while others are missing; or with the last the message is read, and nothing is gathered
+-- what comes of a part: it's dropped; or it's kept while others are missing; or with the last the message is read, and
+-- nothing is gathered
 abbrev pub ComesOfPart : Option Heap → ℕ → Result Came WireError → Option Heap → Type 0
 ComesOfPart None sender r new = (r ≡ Ok (came.Dropped sender)) × (new ≡ None)
 ComesOfPart (Some g) sender r new =
-    MatchBool (nat_lt g.next g.label.count) ((r ≡ Ok (came.Part sender)) × (new ≡ Some g)) (IsRead sender g.octets r × (new ≡ None))
+    MatchBool (nat_lt g.next g.label.count) ((r ≡ Ok (came.Part sender)) × (new ≡ Some g)) (IsRead sender g.octets r
+    × (new ≡ None))
 
 -- what comes of a frame that is no part: its message, or why it has none
 abbrev pub ComesOfFrame : ℕ → List ℕ → Result Came WireError → Type 0
@@ -48,7 +51,8 @@ ComesOfFrame cluster frame (Ok (came.Dropped sender)) = ⊥
 ComesOfFrame cluster frame (Err e) = RefusesFrame cluster e frame
 
 -- the frame is a part of this cluster
-pub record TakesPart (cluster : ℕ) (old : Option Heap) (frame : List ℕ) (r : Result Came WireError) (new : Option Heap) : Type 0 where
+pub record TakesPart (cluster : ℕ) (old : Option Heap) (frame : List ℕ) (r : Result Came WireError)
+    (new : Option Heap) : Type 0 where
   pub portion : Portion (List ℕ)
   pub part : IsPart cluster portion frame
   pub comes : ComesOfPart (gathered old portion) portion.label.sender r new
@@ -76,10 +80,12 @@ pub record TakesNothing (r : Result Came WireError) (new : Option Heap) : Type 0
 -- what comes of a frame of this cluster, and what is gathered then
 abbrev pub Takes : ℕ → Option Heap → List ℕ → Result Came WireError → Option Heap → Type 0
 Takes cluster old frame r new =
-    TakesPart cluster old frame r new ⊎ (TakesFrame cluster frame r new ⊎ (TakesForeign cluster frame r new ⊎ TakesNothing r new))
+    TakesPart cluster old frame r new ⊎ (TakesFrame cluster frame r new ⊎ (TakesForeign cluster frame r new
+    ⊎ TakesNothing r new))
 
 -- frames taken one after the other: what came of each, and what is gathered at the end
 abbrev pub TakesAll : ℕ → Option Heap → List (List ℕ) → List (Result Came WireError) → Option Heap → Type 0
 TakesAll cluster old [] [] new = new ≡ old
-TakesAll cluster old (f ∷ fs) (r ∷ rs) new = (mid : Option Heap) × Takes cluster old f r mid × TakesAll cluster mid fs rs new
+TakesAll cluster old (f ∷ fs) (r ∷ rs) new = (mid : Option Heap) × Takes cluster old f r mid × TakesAll cluster mid fs
+    rs new
 TakesAll cluster old _ _ new = ⊥

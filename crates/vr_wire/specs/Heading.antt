@@ -12,7 +12,8 @@ use Rattle.vr_wire.specs.Parts.{IsPart}
 -- a frame of this cluster, of a message or of a part of one
 abbrev pub IsAnyFrame : ℕ → List ℕ → Type 0
 IsAnyFrame cluster octets =
-    ((sender : ℕ) × (m : PeerMessage OpValue) × IsFrame cluster sender m octets) ⊎ ((p : Portion (List ℕ)) × IsPart cluster p octets)
+    ((sender : ℕ) × (m : PeerMessage OpValue) × IsFrame cluster sender m octets)
+    ⊎ ((p : Portion (List ℕ)) × IsPart cluster p octets)
 
 -- the octets begin so, behind the length
 abbrev pub Begins : List ℕ → List ℕ → Type 0
@@ -25,6 +26,7 @@ is_kind k = (nat_le 1 k && nat_le k 6) || (nat_le 9 k && nat_le k 13)
 -- what the first octets say: the kind and the sender, in this cluster; or no frame begins so, or none of this cluster
 abbrev pub Heads : ℕ → List ℕ → Result (ℕ × ℕ) WireError → Type 0
 Heads cluster first (Ok p) = (first ≡ 2 ∷ (cluster_octets cluster ++ p.0 ∷ p.1 ∷ [])) × (is_kind p.0 ≡ true)
-Heads cluster first (Err error.BadFrame) = (other : ℕ) (octets : List ℕ) → Begins first octets → IsAnyFrame other octets → ⊥
+Heads cluster first (Err error.BadFrame) = (other : ℕ) (octets : List ℕ) → Begins first octets →
+    IsAnyFrame other octets → ⊥
 Heads cluster first (Err error.ForeignFrame) = (octets : List ℕ) → Begins first octets → IsAnyFrame cluster octets → ⊥
 Heads cluster first (Err error.NoMemory) = ⊥

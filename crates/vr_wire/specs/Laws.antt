@@ -15,7 +15,8 @@ use Rattle.vr_wire.specs.Payloads.{IsFrame, written}
 abbrev pub FramesHaveOneMessage : Type 0
 FramesHaveOneMessage =
     (octets : List ℕ) (cluster sender : ℕ) (m : PeerMessage OpValue) (other speaker : ℕ) (n : PeerMessage OpValue)
-    → IsFrame cluster sender m octets → IsFrame other speaker n octets → (cluster ≡ other) × (sender ≡ speaker) × (m ≡ n)
+    → IsFrame cluster sender m octets → IsFrame other speaker n octets → (cluster ≡ other) × (sender ≡ speaker)
+    × (m ≡ n)
 
 -- a frame that begins with a whole frame is that frame
 abbrev pub NoFrameBeginsAnother : Type 0

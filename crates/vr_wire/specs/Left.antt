@@ -13,4 +13,5 @@ plain_left (Some v) = v.items ∷ []
 -- the frames of the parts from the next one on
 abbrev pub parts_left : Parts → List (List ℕ)
 parts_left p =
-    parts_from p.cluster p.sender p.number p.count p.place (pieces_of p.size (p.count - p.place) (drop p.start p.octets.items))
+    parts_from p.cluster p.sender p.number p.count p.place (pieces_of p.size (p.count - p.place)
+    (drop p.start p.octets.items))

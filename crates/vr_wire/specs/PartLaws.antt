@@ -18,7 +18,8 @@ use Rattle.vr_wire.specs.Gathering.{Takes, TakesAll}
 
 -- what is written of a message in range says it
 abbrev pub WrittenIsSaying : Type 0
-WrittenIsSaying = (m : PeerMessage OpValue) → IsInRange (written m) → AreUpdatesInRange (records_of m) → IsSaying m (saying_octets (written m))
+WrittenIsSaying = (m : PeerMessage OpValue) → IsInRange (written m) → AreUpdatesInRange (records_of m) →
+    IsSaying m (saying_octets (written m))
 
 -- what comes of the parts of a message: a part of each but the last, and of the last the message
 abbrev pub message_at_last : ℕ → PeerMessage OpValue → List (List ℕ) → List (Result Came WireError)
@@ -26,7 +27,8 @@ message_at_last sender m [] = []
 message_at_last sender m (f ∷ []) = Ok (came.Message sender m) ∷ []
 message_at_last sender m (f ∷ g ∷ fs) = Ok (came.Part sender) ∷ message_at_last sender m (g ∷ fs)
 
--- the parts of a message, taken in their order, whatever was gathered before, give that message at the last, where memory suffices
+-- the parts of a message, taken in their order, whatever was gathered before, give that message at the last, where
+-- memory suffices
 abbrev pub PartsGiveMessage : Type 0
 PartsGiveMessage =
     (cluster sender number : ℕ) (m : PeerMessage OpValue) (octets : List ℕ) (frames : List (List ℕ))
@@ -45,10 +47,12 @@ pub record EndsWithParts (cluster sender : ℕ) (m : PeerMessage OpValue) (frame
   pub are : ArePartsOf cluster sender number octets parts
   pub ends : frames ≡ before ++ parts
 
--- where nothing was gathered at first and a message comes of a part, the frames that were taken last are that message's parts, all of them and no other
+-- where nothing was gathered at first and a message comes of a part, the frames that were taken last are that message's
+-- parts, all of them and no other
 abbrev pub OnlyPartsGiveMessage : Type 0
 OnlyPartsGiveMessage =
     (cluster sender : ℕ) (m : PeerMessage OpValue) (frames : List (List ℕ)) (results : List (Result Came WireError))
     (p : Portion (List ℕ)) (last : List ℕ) (mid new : Option Heap)
-    → TakesAll cluster None frames results mid → IsPart cluster p last → Takes cluster mid last (Ok (came.Message sender m)) new
+    → TakesAll cluster None frames results mid → IsPart cluster p last →
+    Takes cluster mid last (Ok (came.Message sender m)) new
     → EndsWithParts cluster sender m (frames ++ last ∷ [])

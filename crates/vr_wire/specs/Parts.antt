@@ -13,7 +13,8 @@ use Rattle.vr_wire.specs.declared.labels.Portion.{Portion}
 use Rattle.vr_wire.specs.Frames.{limit, number, short, kind_of, body_octets, frame_octets, IsInRange}
 use Rattle.vr_wire.specs.Payloads.{IsMessageOf}
 
--- what a message says, without the length, the version, the cluster and the sender: its kind, and what follows the sender's octet
+-- what a message says, without the length, the version, the cluster and the sender: its kind, and what follows the
+-- sender's octet
 abbrev pub saying_octets : PeerMessage (List ℕ) → List ℕ
 saying_octets m = kind_of m ∷ body_octets m
 
@@ -24,7 +25,8 @@ pub record IsSaying (m : PeerMessage OpValue) (octets : List ℕ) : Type 0 where
   pub range : IsInRange raw
   pub payloads : IsMessageOf m raw
 
--- what follows the sender's octet in a part: the message's number, the part's place from 0, how many parts there are, and octets of the message
+-- what follows the sender's octet in a part: the message's number, the part's place from 0, how many parts there are,
+-- and octets of the message
 abbrev pub portion_octets : ℕ → ℕ → ℕ → List ℕ → List ℕ
 portion_octets message place count piece = number message ++ (short place ++ (short count ++ piece))
 
@@ -36,7 +38,8 @@ part_rest cluster sender message place count piece =
 -- a part: the length of the rest in four octets, and the rest
 abbrev pub part_octets : ℕ → ℕ → ℕ → ℕ → ℕ → List ℕ → List ℕ
 part_octets cluster sender message place count piece =
-    short (length (part_rest cluster sender message place count piece)) ++ part_rest cluster sender message place count piece
+    short (length (part_rest cluster sender message place count piece)) ++ part_rest cluster sender message place
+    count piece
 
 -- how many octets of a part stand before those of the message
 abbrev pub part_head : ℕ
@@ -57,8 +60,10 @@ pub record ArePartsOf (cluster sender message : ℕ) (octets : List ℕ) (frames
   pub there : AllByRecursion (λ p. 1 ≤ length p) pieces
   pub small : AllByRecursion (λ f. length f ≤ limit) frames
 
--- the frames of a message: its one frame where that has at most so many octets, and else its parts, of at most so many of its octets each
-pub record AreFramesOf (most size cluster sender number : ℕ) (m : PeerMessage (List ℕ)) (frames : List (List ℕ)) : Type 0 where
+-- the frames of a message: its one frame where that has at most so many octets, and else its parts, of at most so many
+-- of its octets each
+pub record AreFramesOf (most size cluster sender number : ℕ) (m : PeerMessage (List ℕ)) (frames : List (List ℕ)) :
+    Type 0 where
   pub plain : length (frame_octets cluster sender m) ≤ most → frames ≡ frame_octets cluster sender m ∷ []
   pub parts : most < length (frame_octets cluster sender m) → ArePartsOf cluster sender number (saying_octets m) frames
   pub pieces : most < length (frame_octets cluster sender m) → AllByRecursion (λ f. length f ≤ part_head + size) frames

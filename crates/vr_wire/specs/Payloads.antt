@@ -86,9 +86,11 @@ pub record IsForeign (cluster : ℕ) (octets : List ℕ) : Type 0 where
   pub frame : IsFrame other sender message octets
   pub differs : other ≢ cluster
 
--- why nothing is read for a cluster: the octets are no frame of any cluster, or a frame of another one; or memory ran out
+-- why nothing is read for a cluster: the octets are no frame of any cluster, or a frame of another one; or memory ran
+-- out
 abbrev pub RefusesFrame : ℕ → WireError → List ℕ → Type 0
-RefusesFrame cluster error.BadFrame octets = (other sender : ℕ) (m : PeerMessage OpValue) → IsFrame other sender m octets → ⊥
+RefusesFrame cluster error.BadFrame octets = (other sender : ℕ) (m : PeerMessage OpValue) →
+    IsFrame other sender m octets → ⊥
 RefusesFrame cluster error.ForeignFrame octets = IsForeign cluster octets
 RefusesFrame cluster error.NoMemory octets = Unit {0}
 
@@ -120,9 +122,17 @@ written (Prepare v e p k) = Prepare v (written_entry e) p k
 written (PrepareOk v p) = PrepareOk v p
 written (Commit v k) = Commit v k
 written (StartViewChange v) = StartViewChange v
-written (DoViewChange v c) = DoViewChange v (record { log = written_log c.log; last_normal_view = c.last_normal_view; commit_number = c.commit_number })
+written (DoViewChange v c) = DoViewChange v (record {
+  log = written_log c.log;
+  last_normal_view = c.last_normal_view;
+  commit_number = c.commit_number;
+})
 written (StartView v held) = StartView v (written_held held)
 written (Recovery x) = Recovery x
-written (RecoveryResponse x a) = RecoveryResponse x (record { view_number = a.view_number; held = written_perhaps a.held })
+written (RecoveryResponse x a) = RecoveryResponse x (record {
+  view_number = a.view_number;
+  held = written_perhaps
+      a.held;
+})
 written (GetState v k) = GetState v k
 written (NewState v x tail) = NewState v x (written_held tail)

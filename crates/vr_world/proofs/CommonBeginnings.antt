@@ -28,9 +28,11 @@ sent_of m (x ∷ ms) (inl e) = inl e
 sent_of m (x ∷ ms) (inr h) = inr (sent_of m ms h)
 
 -- two beginnings of one list that are as long are the same
-same_long : {A : Type 0} (x : ℕ) (a b l : List A) → x ≤ length a → x ≤ length b → IsPrefix (take x a) l → IsPrefix (take x b) l → take x a ≡ take x b
+same_long : {A : Type 0} (x : ℕ) (a b l : List A) → x ≤ length a → x ≤ length b → IsPrefix (take x a) l →
+    IsPrefix (take x b) l → take x a ≡ take x b
 same_long x a b l la lb p q =
-    prefix_full (prefix_shorter p q (omega (arith, length-take-le x a la, length-take-le x b lb))) (omega (arith, length-take-le x a la, length-take-le x b lb))
+    prefix_full (prefix_shorter p q (omega (arith, length-take-le x a la, length-take-le x b lb)))
+    (omega (arith, length-take-le x a la, length-take-le x b lb))
 
 module _ {P : Type 0} (n : ℕ) (size : IsSize n) (w : World P) (inv : Holds n (λ v. []) w) where
   -- what the invariant is told
@@ -38,16 +40,25 @@ module _ {P : Type 0} (n : ℕ) (size : IsSize n) (w : World P) (inv : Holds n (
   given = record { used = w.nonces; past = λ v. [] }
 
   -- the first x records of a log of view u are committed, where its owner counts as many
-  begins : (u k x : ℕ) (l : List (LogEntry P)) → IsLogOf w.messages u l → IsCommitted n w.messages u k → x ≤ k → x ≤ length l → IsPrefix (take x l) (listed_committed n w.messages)
-  begins u k x l h (inl e) low short = let z : 0 ≡ x = omega (arith, e, low) in subst (λ y. IsPrefix (take y l) (listed_committed n w.messages)) z (prefix_nil (listed_committed n w.messages))
-  begins u k x l h (inr c) low short = subst (λ y. IsPrefix y (listed_committed n w.messages)) same (prefix_trans (prefix_take x chosen) (committed_has n w.stored given w.messages size inv.sound c.view_number k c.chosen))
+  begins : (u k x : ℕ) (l : List (LogEntry P)) → IsLogOf w.messages u l → IsCommitted n w.messages u k → x ≤ k →
+      x ≤ length l → IsPrefix (take x l) (listed_committed n w.messages)
+  begins u k x l h (inl e) low short = let z : 0 ≡ x = omega (arith, e, low) in subst
+      (λ y. IsPrefix (take y l) (listed_committed n w.messages)) z (prefix_nil (listed_committed n w.messages))
+  begins u k x l h (inr c) low short = subst (λ y. IsPrefix y (listed_committed n w.messages)) same
+      (prefix_trans (prefix_take x chosen) (committed_has n w.stored given w.messages size inv.sound c.view_number k
+      c.chosen))
     where
       -- what was chosen
       chosen : List (LogEntry P)
       chosen = take k (listed c.view_number w.messages)
 
       long : x ≤ length chosen
-      long = omega (arith, low, length-take-le k (listed c.view_number w.messages) (chosen_fact n w.stored given w.messages size inv.sound c.view_number k c.chosen).1)
+      long = omega (
+        arith,
+        low,
+        length-take-le k (listed c.view_number w.messages) (chosen_fact n w.stored given
+            w.messages size inv.sound c.view_number k c.chosen).1,
+      )
 
       within : IsPrefix chosen (listed u w.messages)
       within = chosen_within n w.stored given w.messages size inv.sound c.view_number u k c.low h.started c.chosen
@@ -56,13 +67,17 @@ module _ {P : Type 0} (n : ℕ) (size : IsSize n) (w : World P) (inv : Holds n (
       same = sym (take_prefix x within long) ∙ take_prefix x h.within short
 
   -- of a replica
-  of_replica : (i : ℕ) (r : State P) → w.replicas i ≡ Some r → (x : ℕ) → x ≤ r.commit_number → x ≤ length r.log → IsPrefix (take x r.log) (listed_committed n w.messages)
-  of_replica i r up x low short = go r.status (up_of n (all_of n w) w.stored given w.messages inv i r (there_up n w i r up)).state
+  of_replica : (i : ℕ) (r : State P) → w.replicas i ≡ Some r → (x : ℕ) → x ≤ r.commit_number → x ≤ length r.log →
+      IsPrefix (take x r.log) (listed_committed n w.messages)
+  of_replica i r up x low short = go r.status (up_of n (all_of n w) w.stored given w.messages inv i r
+      (there_up n w i r up)).state
     where
-      go : (s : Status) → StateFact n w.stored given w.messages i r s → IsPrefix (take x r.log) (listed_committed n w.messages)
+      go : (s : Status) → StateFact n w.stored given w.messages i r s →
+          IsPrefix (take x r.log) (listed_committed n w.messages)
       go Normal h = begins r.last_normal_view r.commit_number x r.log h.active.is_log h.active.is_com low short
       go ViewChange h = begins r.last_normal_view r.commit_number x r.log h.active.is_log h.active.is_com low short
-      go Recovering h = let e : 0 ≡ x = omega (arith, h.nothing, low) in subst (λ y. IsPrefix (take y r.log) (listed_committed n w.messages)) e (prefix_nil (listed_committed n w.messages))
+      go Recovering h = let e : 0 ≡ x = omega (arith, h.nothing, low) in subst
+          (λ y. IsPrefix (take y r.log) (listed_committed n w.messages)) e (prefix_nil (listed_committed n w.messages))
 
   -- no records
   abbrev no_records : List (LogEntry P)
@@ -70,15 +85,20 @@ module _ {P : Type 0} (n : ℕ) (size : IsSize n) (w : World P) (inv : Holds n (
 
   -- of no log
   nothing : (x : ℕ) → x ≤ 0 → IsPrefix (take x no_records) (listed_committed n w.messages)
-  nothing x short = let e : 0 ≡ x = omega (arith, short) in subst (λ y. IsPrefix (take y no_records) (listed_committed n w.messages)) e (prefix_nil (listed_committed n w.messages))
+  nothing x short = let e : 0 ≡ x = omega (arith, short) in subst (λ y. IsPrefix (take y no_records)
+      (listed_committed n w.messages)) e (prefix_nil (listed_committed n w.messages))
 
   -- of a message
-  of_message : (from to : ℕ) (b : PeerMessage P) → BodyFact n w.stored given w.messages from to b → (x : ℕ) → x ≤ committed_in b → x ≤ length (log_in b) → IsPrefix (take x (log_in b)) (listed_committed n w.messages)
-  of_message from to (DoViewChange v c) f x low short = begins c.last_normal_view c.commit_number x c.log f.log f.commit_number low short
-  of_message from to (StartView v held) f x low short = begins v held.commit_number x held.log is_log f.commit_number low short
+  of_message : (from to : ℕ) (b : PeerMessage P) → BodyFact n w.stored given w.messages from to b → (x : ℕ) →
+      x ≤ committed_in b → x ≤ length (log_in b) → IsPrefix (take x (log_in b)) (listed_committed n w.messages)
+  of_message from to (DoViewChange v c) f x low short = begins c.last_normal_view c.commit_number x c.log f.log
+      f.commit_number low short
+  of_message from to (StartView v held) f x low short = begins v held.commit_number x held.log is_log f.commit_number
+      low short
     where
       is_log : IsLogOf w.messages v held.log
-      is_log = subst (λ l. IsLogOf w.messages v l) (sym f.log) (record { started = f.started; within = start_log_within v w.messages; whole = le_refl _ })
+      is_log = subst (λ l. IsLogOf w.messages v l) (sym f.log)
+          (record { started = f.started; within = start_log_within v w.messages; whole = le_refl _ })
   of_message from to (Prepare v e p k) f x low short = nothing x short
   of_message from to (PrepareOk v p) f x low short = nothing x short
   of_message from to (Commit v k) f x low short = nothing x short
@@ -91,7 +111,8 @@ module _ {P : Type 0} (n : ℕ) (size : IsSize n) (w : World P) (inv : Holds n (
 -- Those first records are the same.
 pub beginnings_agree : {P : Type 0} → BeginningsAgree P
 beginnings_agree {P} n size es m h i r up x low short most =
-    same_long x r.log (log_in m.body) (listed_committed n w.messages) within short (of_replica n size w inv i r up x most within)
+    same_long x r.log (log_in m.body) (listed_committed n w.messages) within short (of_replica n size w inv i r up x
+    most within)
     (of_message n size w inv m.from m.to m.body (inv.sound.messages m (sent_of m w.messages h)) x low short)
   where
     w : World P

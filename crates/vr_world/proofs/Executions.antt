@@ -29,7 +29,8 @@ in_either {A} x (y ∷ xs) ys (inr h) = go (in_either x xs ys h)
 -- what is in a list the other way
 in_reverse : {A : Type 0} (x : A) (xs : List A) → In x (reverse xs) → In x xs
 in_reverse x [] h = h
-in_reverse {A} x (y ∷ xs) h = go (in_either x (reverse xs) (y ∷ []) (subst (In x) (reverse-append (y ∷ []) xs) h)) (in_reverse x xs)
+in_reverse {A} x (y ∷ xs) h = go (in_either x (reverse xs) (y ∷ []) (subst (In x) (reverse-append (y ∷ []) xs) h))
+    (in_reverse x xs)
   where
     go : In x (reverse xs) ⊎ In x (y ∷ []) → (In x (reverse xs) → In x xs) → In x (y ∷ xs)
     go (inl k) ih = inr (ih k)
@@ -48,7 +49,8 @@ module _ {P : Type 0} (n : ℕ) where
   none old new e = record { given = []; replies = e; executed = λ t h. absurd h }
 
   -- the replies of a step
-  given_made : (old w : World P) (i : ℕ) (d : Outcome P) → Right d → w.replies ≡ old.replies → GivenSince old (made i d w)
+  given_made : (old w : World P) (i : ℕ) (d : Outcome P) → Right d → w.replies ≡ old.replies →
+      GivenSince old (made i d w)
   given_made old w i d right same = record {
     given = reverse (given_by i d.replies);
     replies = answered_is i d.replies w.replies ∙ ap (λ l. reverse (given_by i d.replies) ++ l) same;
@@ -60,19 +62,22 @@ module _ {P : Type 0} (n : ℕ) where
   }
 
   -- of a replica that is up
-  given_stepped : (w : World P) (i : ℕ) (act : State P → Outcome P) → ((r : State P) → Right (act r)) → (o : Option (State P)) → GivenSince w (stepped i act o w)
+  given_stepped : (w : World P) (i : ℕ) (act : State P → Outcome P) → ((r : State P) → Right (act r)) →
+      (o : Option (State P)) → GivenSince w (stepped i act o w)
   given_stepped w i act right None = none w w refl
   given_stepped w i act right (Some r) = given_made w w i (act r) (right r) refl
 
   -- of a delivery
   given_delivered : (w : World P) (o : Option (Message P)) → GivenSince w (delivered n o w)
   given_delivered w None = none w w refl
-  given_delivered w (Some m) = given_stepped w m.to (λ r. step n m.to r (event.Message m.from m.body)) (λ r. message_right n m.to r m.from m.body) (w.replicas m.to)
+  given_delivered w (Some m) = given_stepped w m.to (λ r. step n m.to r (event.Message m.from m.body))
+      (λ r. message_right n m.to r m.from m.body) (w.replicas m.to)
 
   -- a recovery gives none
   given_recovered : (w : World P) (i x : ℕ) (o : Option (State P)) → GivenSince w (recovered n i x o w)
   given_recovered w i x (Some r) = none w w refl
-  given_recovered w i x None = by_test (GivenSince w) (has_used x (w.nonces i)) _ _ (λ e. none w w refl) (λ e. none w _ refl)
+  given_recovered w i x None = by_test (GivenSince w) (has_used x (w.nonces i)) _ _ (λ e. none w w refl)
+      (λ e. none w _ refl)
 
   -- a crash gives none
   given_crashed : (w : World P) (i : ℕ) (o : Option (State P)) → GivenSince w (crashed i o w)
@@ -80,20 +85,30 @@ module _ {P : Type 0} (n : ℕ) where
   given_crashed w i (Some r) = none w _ refl
 
   -- nor does who goes on
-  given_resumed : (w : World P) (i k : ℕ) (o : Option (State P)) (c : Option (Change P)) → GivenSince w (resumed n i k o c w)
+  given_resumed : (w : World P) (i k : ℕ) (o : Option (State P)) (c : Option (Change P)) →
+      GivenSince w (resumed n i k o c w)
   given_resumed w i k (Some r) c = none w w refl
   given_resumed w i k None None = none w w refl
   given_resumed w i k None (Some c) = none w _ refl
 
   -- of an event
   pub given_happens : (w : World P) (e : WorldEvent P) → GivenSince w (happens n w e)
-  given_happens w (Request i e) = by_test (GivenSince w) (nat_lt i n) _ _ (λ k. given_stepped w i (λ r. step n i r (event.Request e)) (λ r. request_right n i r e) (w.replicas i)) (λ k. none w w refl)
+  given_happens w (Request i e) = by_test (GivenSince w) (nat_lt i n) _ _
+      (λ k. given_stepped w i (λ r. step n i r (event.Request e)) (λ r. request_right n i r e) (w.replicas i))
+      (λ k. none w w refl)
   given_happens w (Deliver k) = given_delivered w (sent_as k w.messages)
-  given_happens w (Suspect i) = by_test (GivenSince w) (nat_lt i n) _ _ (λ k. given_stepped w i (λ r. step n i r event.Suspect) (λ r. suspect_right n i r r.status) (w.replicas i)) (λ k. none w w refl)
-  given_happens w (Beat i) = by_test (GivenSince w) (nat_lt i n) _ _ (λ k. given_stepped w i (λ r. step n i r event.Beat) (λ r. beat_right n i r r.status) (w.replicas i)) (λ k. none w w refl)
-  given_happens w (Crash i) = by_test (GivenSince w) (nat_lt i n) _ _ (λ k. given_crashed w i (w.replicas i)) (λ k. none w w refl)
-  given_happens w (Recover i x) = by_test (GivenSince w) (nat_lt i n) _ _ (λ k. given_recovered w i x (w.replicas i)) (λ k. none w w refl)
-  given_happens w (Resume i x) = by_test (GivenSince w) (nat_lt i n) _ _ (λ k. given_resumed w i x (w.replicas i) (w.kept i)) (λ k. none w w refl)
+  given_happens w (Suspect i) = by_test (GivenSince w) (nat_lt i n) _ _
+      (λ k. given_stepped w i (λ r. step n i r event.Suspect) (λ r. suspect_right n i r r.status) (w.replicas i))
+      (λ k. none w w refl)
+  given_happens w (Beat i) = by_test (GivenSince w) (nat_lt i n) _ _
+      (λ k. given_stepped w i (λ r. step n i r event.Beat) (λ r. beat_right n i r r.status) (w.replicas i))
+      (λ k. none w w refl)
+  given_happens w (Crash i) = by_test (GivenSince w) (nat_lt i n) _ _ (λ k. given_crashed w i (w.replicas i))
+      (λ k. none w w refl)
+  given_happens w (Recover i x) = by_test (GivenSince w) (nat_lt i n) _ _ (λ k. given_recovered w i x (w.replicas i))
+      (λ k. none w w refl)
+  given_happens w (Resume i x) = by_test (GivenSince w) (nat_lt i n) _ _ (λ k. given_resumed w i x (w.replicas i)
+      (w.kept i)) (λ k. none w w refl)
 
 -- At each event the replies that are given name what their replica has committed by then.
 pub replies_are_executed : {P : Type 0} → RepliesAreExecuted P

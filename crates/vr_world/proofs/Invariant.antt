@@ -73,7 +73,8 @@ abbrev pub IsCommitted : {P : Type 0} → ℕ → List (Message P) → ℕ → �
 IsCommitted n ms v x = (x ≡ 0) ⊎ ChosenBy n ms v x
 
 -- what j promises by a DOVIEWCHANGE of v
-pub record ChangeFact {P : Type 0} (n : ℕ) (stored : ℕ → ℕ) (ms : List (Message P)) (v j : ℕ) (c : Change P) : Type 0 where
+pub record ChangeFact {P : Type 0} (n : ℕ) (stored : ℕ → ℕ) (ms : List (Message P)) (v j : ℕ) (c : Change P) :
+    Type 0 where
   pub log : IsLogOf ms c.last_normal_view c.log
   pub commit_number : IsCommitted n ms c.last_normal_view c.commit_number
   pub before : c.last_normal_view < v
@@ -81,7 +82,8 @@ pub record ChangeFact {P : Type 0} (n : ℕ) (stored : ℕ → ℕ) (ms : List (
   pub covers : Covers n ms j v c.last_normal_view (length c.log)
 
 -- why v may begin with this log
-pub record Justified {P : Type 0} (n : ℕ) (stored : ℕ → ℕ) (ms : List (Message P)) (v : ℕ) (l : List (LogEntry P)) : Type 0 where
+pub record Justified {P : Type 0} (n : ℕ) (stored : ℕ → ℕ) (ms : List (Message P)) (v : ℕ) (l : List (LogEntry P)) :
+    Type 0 where
   pub view_number : ℕ
   pub before : view_number < v
   pub log : IsLogOf ms view_number l
@@ -113,7 +115,8 @@ pub record PrepareOkFact {P : Type 0} (stored : ℕ → ℕ) (ms : List (Message
   pub within : q ≤ length (listed v ms)
 
 -- what a STARTVIEW of j shows
-pub record StartViewFact {P : Type 0} (n : ℕ) (stored : ℕ → ℕ) (ms : List (Message P)) (j v : ℕ) (held : Snapshot P) : Type 0 where
+pub record StartViewFact {P : Type 0} (n : ℕ) (stored : ℕ → ℕ) (ms : List (Message P)) (j v : ℕ) (held : Snapshot P) :
+    Type 0 where
   pub low : v ≤ stored j
   pub leads : primary n v ≡ j
   pub started : Started v ms
@@ -133,29 +136,36 @@ BodyFact n stored given ms from to (StartViewChange v) = Unit {0}
 BodyFact n stored given ms from to (DoViewChange v c) = ChangeFact n stored ms v from c
 BodyFact n stored given ms from to (StartView v held) = StartViewFact n stored ms from v held
 BodyFact n stored given ms from to (GetState v x) = Unit {0}
-BodyFact n stored given ms from to (NewState v x tail) = IsTailOf ms v x tail.log × IsCommitted n ms v tail.commit_number
+BodyFact n stored given ms from to (NewState v x tail) = IsTailOf ms v x tail.log
+    × IsCommitted n ms v tail.commit_number
 BodyFact n stored given ms from to (Recovery x) = IsUsed x (given.used from)
-BodyFact n stored given ms from to (RecoveryResponse x a) = IsUsed x (given.used to) × HeldFact n ms a.view_number a.held
+BodyFact n stored given ms from to (RecoveryResponse x a) = IsUsed x (given.used to) × HeldFact n ms a.view_number
+    a.held
 
 -- what a message shows
 abbrev pub MessageFact : {P : Type 0} → ℕ → (ℕ → ℕ) → Given P → List (Message P) → Message P → Type 0
 MessageFact n stored given ms m = BodyFact n stored given ms m.from m.to m.body
 
 -- a replica that isn't recovering
-pub record ActiveFact {P : Type 0} (n : ℕ) (ms : List (Message P)) (i view_number last_normal_view : ℕ) (log : List (LogEntry P)) (commit_number : ℕ) : Type 0 where
+pub record ActiveFact {P : Type 0} (n : ℕ) (ms : List (Message P)) (i view_number last_normal_view : ℕ)
+    (log : List (LogEntry P)) (commit_number : ℕ) : Type 0 where
   pub is_log : IsLogOf ms last_normal_view log
   pub is_com : IsCommitted n ms last_normal_view commit_number
   pub within : commit_number ≤ length log
   pub covers : Covers n ms i (suc view_number) last_normal_view (length log)
 
 -- a normal replica
-pub record NormalFact {P : Type 0} (n : ℕ) (ms : List (Message P)) (i view_number last_normal_view : ℕ) (log : List (LogEntry P)) (commit_number : ℕ) (acknowledged : List ℕ) : Type 0 where
+pub record NormalFact {P : Type 0} (n : ℕ) (ms : List (Message P)) (i view_number last_normal_view : ℕ)
+    (log : List (LogEntry P)) (commit_number : ℕ) (acknowledged : List ℕ) : Type 0 where
   pub active : ActiveFact n ms i view_number last_normal_view log commit_number
   pub is_last : last_normal_view ≡ view_number
-  pub acks : (j : ℕ) → (slice_index acknowledged j ≡ 0) ⊎ (has_said view_number (slice_index acknowledged j) j ms ≡ true)
+  pub acks : (j : ℕ) → (slice_index acknowledged j ≡ 0) ⊎ (has_said view_number (slice_index acknowledged j) j ms ≡
+      true)
 
 -- a replica that changes
-pub record ChangingFact {P : Type 0} (n : ℕ) (stored : ℕ → ℕ) (ms : List (Message P)) (i view_number last_normal_view : ℕ) (log : List (LogEntry P)) (commit_number : ℕ) (do_view_changes : List (ℕ × Change P)) : Type 0 where
+pub record ChangingFact {P : Type 0} (n : ℕ) (stored : ℕ → ℕ) (ms : List (Message P))
+    (i view_number last_normal_view : ℕ) (log : List (LogEntry P)) (commit_number : ℕ) (do_view_changes :
+    List (ℕ × Change P)) : Type 0 where
   pub active : ActiveFact n ms i view_number last_normal_view log commit_number
   pub before : last_normal_view < view_number
   pub unstarted : primary n view_number ≡ i → Started view_number ms → ⊥
@@ -167,7 +177,8 @@ AnswersAll ms i x (RecoveryResponse y a) = x ≡ y → HeldAll ms i a.view_numbe
 AnswersAll ms i x _ = Unit {0}
 
 -- a recovering replica
-pub record RecoveringFact {P : Type 0} (n : ℕ) (given : Given P) (ms : List (Message P)) (i commit_number nonce : ℕ) (responses : List (ℕ × Response P)) : Type 0 where
+pub record RecoveringFact {P : Type 0} (n : ℕ) (given : Given P) (ms : List (Message P)) (i commit_number nonce : ℕ)
+    (responses : List (ℕ × Response P)) : Type 0 where
   pub used : IsUsed nonce (given.used i)
   pub nothing : commit_number ≡ 0
   pub others : (j : ℕ) (a : Response P) → noted j responses ≡ Some a → j ≢ i
@@ -177,12 +188,15 @@ pub record RecoveringFact {P : Type 0} (n : ℕ) (given : Given P) (ms : List (M
 
 -- a replica by its status
 abbrev pub StateFact : {P : Type 0} → ℕ → (ℕ → ℕ) → Given P → List (Message P) → ℕ → State P → Status → Type 0
-StateFact n stored given ms i r Normal = NormalFact n ms i r.view_number r.last_normal_view r.log r.commit_number r.acknowledged
-StateFact n stored given ms i r ViewChange = ChangingFact n stored ms i r.view_number r.last_normal_view r.log r.commit_number r.do_view_changes
+StateFact n stored given ms i r Normal = NormalFact n ms i r.view_number r.last_normal_view r.log r.commit_number
+    r.acknowledged
+StateFact n stored given ms i r ViewChange = ChangingFact n stored ms i r.view_number r.last_normal_view r.log
+    r.commit_number r.do_view_changes
 StateFact n stored given ms i r Recovering = RecoveringFact n given ms i r.commit_number r.nonce r.responses
 
 -- a replica that is up: its view is the stored one
-pub record UpFact {P : Type 0} (n : ℕ) (stored : ℕ → ℕ) (given : Given P) (ms : List (Message P)) (i : ℕ) (r : State P) : Type 0 where
+pub record UpFact {P : Type 0} (n : ℕ) (stored : ℕ → ℕ) (given : Given P) (ms : List (Message P)) (i : ℕ)
+    (r : State P) : Type 0 where
   pub view_number : r.view_number ≡ stored i
   pub state : StateFact n stored given ms i r r.status
 
@@ -200,7 +214,8 @@ pub record Sound {P : Type 0} (n : ℕ) (stored : ℕ → ℕ) (given : Given P)
   pub rising : (v : ℕ) → Rising (listed v ms)
 
 -- what holds of each world
-pub record Invariant {P : Type 0} (n : ℕ) (replicas : ℕ → Option (State P)) (stored : ℕ → ℕ) (given : Given P) (ms : List (Message P)) : Type 0 where
+pub record Invariant {P : Type 0} (n : ℕ) (replicas : ℕ → Option (State P)) (stored : ℕ → ℕ) (given : Given P)
+    (ms : List (Message P)) : Type 0 where
   pub sound : Sound n stored given ms
   pub each : (i : ℕ) → ReplicaFact n stored given ms i (replicas i)
 
@@ -210,12 +225,14 @@ HoldsAll ms to (RecoveryResponse x a) = HeldAll ms to a.view_number a.held
 HoldsAll ms to _ = Unit {0}
 
 -- what a new message shows
-pub record NewFact {P : Type 0} (n : ℕ) (stored : ℕ → ℕ) (given : Given P) (ms : List (Message P)) (m : Message P) : Type 0 where
+pub record NewFact {P : Type 0} (n : ℕ) (stored : ℕ → ℕ) (given : Given P) (ms : List (Message P)) (m : Message P) :
+    Type 0 where
   pub fact : MessageFact n stored given ms m
   pub holds : HoldsAll ms m.to m.body
 
 -- how the messages go on
-pub record Grows {P : Type 0} (n : ℕ) (stored : ℕ → ℕ) (given : Given P) (ms : List (Message P)) (stored' : ℕ → ℕ) (given' : Given P) (ms' : List (Message P)) : Type 0 where
+pub record Grows {P : Type 0} (n : ℕ) (stored : ℕ → ℕ) (given : Given P) (ms : List (Message P)) (stored' : ℕ → ℕ)
+    (given' : Given P) (ms' : List (Message P)) : Type 0 where
   pub views : (j : ℕ) → stored j ≤ stored' j
   pub uses : (j x : ℕ) → IsUsed x (given.used j) → IsUsed x (given'.used j)
   pub lists : (v : ℕ) → IsPrefix (listed v ms) (listed v ms')
@@ -225,7 +242,8 @@ pub record Grows {P : Type 0} (n : ℕ) (stored : ℕ → ℕ) (given : Given P)
   pub debts : (j v q : ℕ) → v < stored j → Owes n ms' j v q → Owes n ms j v q
 
 -- what the new messages are
-pub record Adds {P : Type 0} (n : ℕ) (ms : List (Message P)) (stored' : ℕ → ℕ) (given' : Given P) (ms' : List (Message P)) : Type 0 where
+pub record Adds {P : Type 0} (n : ℕ) (ms : List (Message P)) (stored' : ℕ → ℕ) (given' : Given P)
+    (ms' : List (Message P)) : Type 0 where
   pub news : (m : Message P) → Sent m ms' → Sent m ms ⊎ NewFact n stored' given' ms' m
   pub begun : (v : ℕ) → Started v ms' → Started v ms ⊎ Justified n stored' ms' v (start_log v ms')
   pub rest : (v : ℕ) → Started v ms' ⊎ (listed v ms' ≡ listed v ms)

@@ -39,7 +39,8 @@ start_holds {P} n = record {
     kept = λ v. prefix_nil [];
     rising = λ v. tt;
   };
-  each = λ i. by_test (λ o. ReplicaFact n (λ i. 0) (record { used = λ i. []; past = λ v. [] }) [] i (or_kept n 0 o None)) (nat_lt i n) (Some (first n)) None (λ t. up i) (λ t. tt);
+  each = λ i. by_test (λ o. ReplicaFact n (λ i. 0) (record { used = λ i. []; past = λ v. [] }) [] i
+      (or_kept n 0 o None)) (nat_lt i n) (Some (first n)) None (λ t. up i) (λ t. tt);
 }
   where
     owed : (i v q : ℕ) → (false ≡ true) ⊎ ((primary n v ≡ i) × (v ≡ 0) × (q ≤ 0)) → Below v q 0 0
@@ -62,10 +63,13 @@ start_holds {P} n = record {
     }
 
 -- The lists so far stay.
-lists_stay : {P : Type 0} (n : ℕ) (past : ℕ → List (LogEntry P)) (w : World P) → Holds n past w → Holds n (λ v. listed v w.messages) w
+lists_stay : {P : Type 0} (n : ℕ) (past : ℕ → List (LogEntry P)) (w : World P) → Holds n past w →
+    Holds n (λ v. listed v w.messages) w
 lists_stay {P} n past w inv = record {
-  sound = sound_grows n w.stored old w.messages w.stored new w.messages g (adds_none n w.stored old w.messages w.stored new) (λ v. prefix_refl (listed v w.messages)) inv.sound.rising inv.sound;
-  each = λ j. replica_grows n w.stored old w.messages w.stored new w.messages g (adds_none n w.stored old w.messages w.stored new) j (all_of n w j) (still_same n w.messages j) refl (inv.each j);
+  sound = sound_grows n w.stored old w.messages w.stored new w.messages g (adds_none n w.stored old w.messages
+      w.stored new) (λ v. prefix_refl (listed v w.messages)) inv.sound.rising inv.sound;
+  each = λ j. replica_grows n w.stored old w.messages w.stored new w.messages g (adds_none n w.stored old w.messages
+      w.stored new) j (all_of n w j) (still_same n w.messages j) refl (inv.each j);
 }
   where
     old : Given P
@@ -80,9 +84,11 @@ lists_stay {P} n past w inv = record {
 -- What was said stays said.
 
 -- what was said stays said as messages are sent
-said_posted : {P : Type 0} (v p j i : ℕ) (xs : List (Send P)) (ms : List (Message P)) → has_said v p j ms ≡ true → has_said v p j (posted i xs ms) ≡ true
+said_posted : {P : Type 0} (v p j i : ℕ) (xs : List (Send P)) (ms : List (Message P)) → has_said v p j ms ≡ true →
+    has_said v p j (posted i xs ms) ≡ true
 said_posted v p j i [] ms h = h
-said_posted v p j i (x ∷ xs) ms h = said_posted v p j i xs (record { from = i; to = x.to; body = x.message } ∷ ms) (or_right (i == j && says v p x.message) _ h)
+said_posted v p j i (x ∷ xs) ms h = said_posted v p j i xs (record { from = i; to = x.to; body = x.message } ∷ ms)
+    (or_right (i == j && says v p x.message) _ h)
 
 module _ {P : Type 0} (n v p j : ℕ) where
   -- j has said that it has p records of v
@@ -90,19 +96,22 @@ module _ {P : Type 0} (n v p j : ℕ) where
   Said w = has_said v p j w.messages ≡ true
 
   -- through a step
-  said_stepped : (i : ℕ) (step : State P → Outcome P) (o : Option (State P)) (w : World P) → Said w → Said (stepped i step o w)
+  said_stepped : (i : ℕ) (step : State P → Outcome P) (o : Option (State P)) (w : World P) → Said w →
+      Said (stepped i step o w)
   said_stepped i step None w h = h
   said_stepped i step (Some r) w h = said_posted v p j i (step r).sends w.messages h
 
   -- a delivery
   said_delivered : (o : Option (Message P)) (w : World P) → Said w → Said (delivered n o w)
   said_delivered None w h = h
-  said_delivered (Some m) w h = said_stepped m.to (λ r. step n m.to r (event.Message m.from m.body)) (w.replicas m.to) w h
+  said_delivered (Some m) w h = said_stepped m.to (λ r. step n m.to r (event.Message m.from m.body)) (w.replicas m.to)
+      w h
 
   -- a recovery
   said_recovered : (i x : ℕ) (o : Option (State P)) (w : World P) → Said w → Said (recovered n i x o w)
   said_recovered i x (Some r) w h = h
-  said_recovered i x None w h = by_test Said (has_used x (w.nonces i)) _ _ (λ t. h) (λ t. said_posted v p j i (to_all n i (Recovery x)) w.messages h)
+  said_recovered i x None w h = by_test Said (has_used x (w.nonces i)) _ _ (λ t. h)
+      (λ t. said_posted v p j i (to_all n i (Recovery x)) w.messages h)
 
   -- a crash
   said_crashed : (i : ℕ) (o : Option (State P)) (w : World P) → Said w → Said (crashed i o w)
@@ -110,20 +119,25 @@ module _ {P : Type 0} (n v p j : ℕ) where
   said_crashed i (Some r) w h = h
 
   -- a return
-  said_resumed : (i k : ℕ) (o : Option (State P)) (c : Option (Change P)) (w : World P) → Said w → Said (resumed n i k o c w)
+  said_resumed : (i k : ℕ) (o : Option (State P)) (c : Option (Change P)) (w : World P) → Said w →
+      Said (resumed n i k o c w)
   said_resumed i k (Some r) c w h = h
   said_resumed i k None None w h = h
   said_resumed i k None (Some c) w h = h
 
   -- an event
   said_happens : (w : World P) (e : WorldEvent P) → Said w → Said (happens n w e)
-  said_happens w (Request i e) h = by_test Said (nat_lt i n) _ _ (λ t. said_stepped i (λ r. step n i r (event.Request e)) (w.replicas i) w h) (λ t. h)
+  said_happens w (Request i e) h = by_test Said (nat_lt i n) _ _
+      (λ t. said_stepped i (λ r. step n i r (event.Request e)) (w.replicas i) w h) (λ t. h)
   said_happens w (Deliver k) h = said_delivered (sent_as k w.messages) w h
-  said_happens w (Suspect i) h = by_test Said (nat_lt i n) _ _ (λ t. said_stepped i (λ r. step n i r event.Suspect) (w.replicas i) w h) (λ t. h)
-  said_happens w (Beat i) h = by_test Said (nat_lt i n) _ _ (λ t. said_stepped i (λ r. step n i r event.Beat) (w.replicas i) w h) (λ t. h)
+  said_happens w (Suspect i) h = by_test Said (nat_lt i n) _ _ (λ t. said_stepped i (λ r. step n i r event.Suspect)
+      (w.replicas i) w h) (λ t. h)
+  said_happens w (Beat i) h = by_test Said (nat_lt i n) _ _ (λ t. said_stepped i (λ r. step n i r event.Beat)
+      (w.replicas i) w h) (λ t. h)
   said_happens w (Crash i) h = by_test Said (nat_lt i n) _ _ (λ t. said_crashed i (w.replicas i) w h) (λ t. h)
   said_happens w (Recover i x) h = by_test Said (nat_lt i n) _ _ (λ t. said_recovered i x (w.replicas i) w h) (λ t. h)
-  said_happens w (Resume i k) h = by_test Said (nat_lt i n) _ _ (λ t. said_resumed i k (w.replicas i) (w.kept i) w h) (λ t. h)
+  said_happens w (Resume i k) h = by_test Said (nat_lt i n) _ _ (λ t. said_resumed i k (w.replicas i) (w.kept i) w h)
+      (λ t. h)
 
   -- Through a whole schedule.
   pub said_run : (es : List (WorldEvent P)) (w : World P) → Said w → Said (run n es w)
@@ -131,7 +145,8 @@ module _ {P : Type 0} (n v p j : ℕ) where
   said_run (e ∷ es) w h = said_run es (happens n w e) (said_happens w e h)
 
 -- A schedule in two parts.
-pub run-append : {P : Type 0} (n : ℕ) (es more : List (WorldEvent P)) (w : World P) → run n (es ++ more) w ≡ run n more (run n es w)
+pub run-append : {P : Type 0} (n : ℕ) (es more : List (WorldEvent P)) (w : World P) → run n (es ++ more) w ≡
+    run n more (run n es w)
 run-append n [] more w = refl
 run-append n (e ∷ es) more w = run-append n es more (happens n w e)
 
@@ -140,8 +155,11 @@ pub after_holds : {P : Type 0} (n : ℕ) → IsSize n → (es : List (WorldEvent
 after_holds n size es = run_holds n size (λ v. []) es (start n) (start_holds n)
 
 -- from a world with the invariant on
-pub committed_stays : {P : Type 0} (n : ℕ) → IsSize n → (past : ℕ → List (LogEntry P)) (w : World P) → Holds n past w → (es : List (WorldEvent P)) → IsPrefix (listed_committed n w.messages) (listed_committed n (run n es w).messages)
-committed_stays {P} n size past w inv es = go (longest_is n w.stored (record { used = w.nonces; past = past }) w.messages w.messages size inv.sound)
+pub committed_stays : {P : Type 0} (n : ℕ) → IsSize n → (past : ℕ → List (LogEntry P)) (w : World P) →
+    Holds n past w → (es : List (WorldEvent P)) → IsPrefix (listed_committed n w.messages)
+    (listed_committed n (run n es w).messages)
+committed_stays {P} n size past w inv es = go (longest_is n w.stored (record { used = w.nonces; past = past })
+    w.messages w.messages size inv.sound)
   where
     later : World P
     later = run n es w
@@ -149,38 +167,57 @@ committed_stays {P} n size past w inv es = go (longest_is n w.stored (record { u
     inv' : Holds n (λ v. listed v w.messages) later
     inv' = run_holds n size (λ v. listed v w.messages) es w (lists_stay n past w inv)
 
-    go : IsEmptyOrChosen n w.messages (listed_committed n w.messages) → IsPrefix (listed_committed n w.messages) (listed_committed n later.messages)
-    go (inl e) = subst (λ l. IsPrefix l (listed_committed n later.messages)) (sym e) (prefix_nil (listed_committed n later.messages))
-    go (inr c) = subst (λ l. IsPrefix l (listed_committed n later.messages)) (take_prefix c.op_number (inv'.sound.kept c.view_number) c.within ∙ sym c.is)
-        (committed_has n later.stored (record { used = later.nonces; past = λ v. listed v w.messages }) later.messages size inv'.sound c.view_number c.op_number chosen)
+    go : IsEmptyOrChosen n w.messages (listed_committed n w.messages) → IsPrefix (listed_committed n w.messages)
+        (listed_committed n later.messages)
+    go (inl e) = subst (λ l. IsPrefix l (listed_committed n later.messages)) (sym e)
+        (prefix_nil (listed_committed n later.messages))
+    go (inr c) = subst (λ l. IsPrefix l (listed_committed n later.messages))
+        (take_prefix c.op_number (inv'.sound.kept c.view_number) c.within ∙ sym c.is)
+        (committed_has n later.stored (record { used = later.nonces; past = λ v. listed v w.messages }) later.messages
+        size inv'.sound c.view_number c.op_number chosen)
       where
         chosen : is_chosen n c.view_number c.op_number later.messages ≡ true
-        chosen = le-leb _ _ (le_trans (leb-true _ _ c.chosen) (count_le (λ j. has_said c.view_number c.op_number j w.messages) (λ j. has_said c.view_number c.op_number j later.messages) (others n (primary n c.view_number)) (λ j h. said_run n c.view_number c.op_number j es w h)))
+        chosen = le-leb _ _ (le_trans (leb-true _ _ c.chosen)
+            (count_le (λ j. has_said c.view_number c.op_number j w.messages) (λ j. has_said c.view_number c.op_number
+            j later.messages) (others n (primary n c.view_number)) (λ j h. said_run n c.view_number c.op_number j es w
+            h)))
 
 -- the first k records of a replica
-pub replica_agrees : {P : Type 0} (n : ℕ) → IsSize n → (past : ℕ → List (LogEntry P)) (w : World P) → Holds n past w → (i : ℕ) (r : State P) → w.replicas i ≡ Some r → IsPrefix (take r.commit_number r.log) (listed_committed n w.messages)
-replica_agrees {P} n size past w inv i r up = go r.status (up_of n (all_of n w) w.stored given w.messages inv i r (there_up n w i r up)).state
+pub replica_agrees : {P : Type 0} (n : ℕ) → IsSize n → (past : ℕ → List (LogEntry P)) (w : World P) → Holds n past w →
+    (i : ℕ) (r : State P) → w.replicas i ≡ Some r → IsPrefix (take r.commit_number r.log)
+    (listed_committed n w.messages)
+replica_agrees {P} n size past w inv i r up = go r.status (up_of n (all_of n w) w.stored given w.messages inv i r
+    (there_up n w i r up)).state
   where
     given : Given P
     given = record { used = w.nonces; past = past }
 
     nothing : r.commit_number ≡ 0 → IsPrefix (take r.commit_number r.log) (listed_committed n w.messages)
-    nothing e = subst (λ k. IsPrefix (take k r.log) (listed_committed n w.messages)) (sym e) (prefix_nil (listed_committed n w.messages))
+    nothing e = subst (λ k. IsPrefix (take k r.log) (listed_committed n w.messages)) (sym e)
+        (prefix_nil (listed_committed n w.messages))
 
-    active : ActiveFact n w.messages i r.view_number r.last_normal_view r.log r.commit_number → IsCommitted n w.messages r.last_normal_view r.commit_number → IsPrefix (take r.commit_number r.log) (listed_committed n w.messages)
+    active : ActiveFact n w.messages i r.view_number r.last_normal_view r.log r.commit_number →
+        IsCommitted n w.messages r.last_normal_view r.commit_number → IsPrefix (take r.commit_number r.log)
+        (listed_committed n w.messages)
     active h (inl e) = nothing e
-    active h (inr c) = subst (λ l. IsPrefix l (listed_committed n w.messages)) same (committed_has n w.stored given w.messages size inv.sound c.view_number r.commit_number c.chosen)
+    active h (inr c) = subst (λ l. IsPrefix l (listed_committed n w.messages)) same (committed_has n w.stored given
+        w.messages size inv.sound c.view_number r.commit_number c.chosen)
       where
         long : length (take r.commit_number (listed c.view_number w.messages)) ≡ r.commit_number
-        long = length-take-le r.commit_number (listed c.view_number w.messages) (chosen_fact n w.stored given w.messages size inv.sound c.view_number r.commit_number c.chosen).1
+        long = length-take-le r.commit_number (listed c.view_number w.messages)
+            (chosen_fact n w.stored given w.messages size inv.sound c.view_number r.commit_number c.chosen).1
 
-        within : IsPrefix (take r.commit_number (listed c.view_number w.messages)) (listed r.last_normal_view w.messages)
-        within = chosen_within n w.stored given w.messages size inv.sound c.view_number r.last_normal_view r.commit_number c.low h.is_log.started c.chosen
+        within : IsPrefix (take r.commit_number (listed c.view_number w.messages))
+            (listed r.last_normal_view w.messages)
+        within = chosen_within n w.stored given w.messages size inv.sound c.view_number r.last_normal_view
+            r.commit_number c.low h.is_log.started c.chosen
 
         same : take r.commit_number (listed c.view_number w.messages) ≡ take r.commit_number r.log
-        same = prefix_is within ∙ ap (λ k. take k (listed r.last_normal_view w.messages)) long ∙ take_prefix r.commit_number h.is_log.within h.within
+        same = prefix_is within ∙ ap (λ k. take k (listed r.last_normal_view w.messages)) long
+            ∙ take_prefix r.commit_number h.is_log.within h.within
 
-    go : (s : Status) → StateFact n w.stored given w.messages i r s → IsPrefix (take r.commit_number r.log) (listed_committed n w.messages)
+    go : (s : Status) → StateFact n w.stored given w.messages i r s → IsPrefix (take r.commit_number r.log)
+        (listed_committed n w.messages)
     go Normal h = active h.active h.active.is_com
     go ViewChange h = active h.active h.active.is_com
     go Recovering h = nothing h.nothing

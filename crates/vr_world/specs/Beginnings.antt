@@ -21,8 +21,10 @@ committed_in (DoViewChange v c) = c.commit_number
 committed_in (StartView v held) = held.commit_number
 committed_in _ = 0
 
--- Of the log in a message that was ever sent, and the log of a replica that is up, those first records are the same that both have committed.
+-- Of the log in a message that was ever sent, and the log of a replica that is up, those first records are the same
+-- that both have committed.
 abbrev pub BeginningsAgree : Type 0 → Type 0
 BeginningsAgree P = (n : ℕ) → IsSize n → (es : List (WorldEvent P)) (m : Message P) → In m (after n es).messages →
     (i : ℕ) (r : State P) → (after n es).replicas i ≡ Some r →
-    (x : ℕ) → x ≤ committed_in m.body → x ≤ length (log_in m.body) → x ≤ r.commit_number → take x r.log ≡ take x (log_in m.body)
+    (x : ℕ) → x ≤ committed_in m.body → x ≤ length (log_in m.body) → x ≤ r.commit_number → take x r.log ≡
+    take x (log_in m.body)

@@ -33,12 +33,14 @@ CommittedGrows P = (n : ℕ) → IsSize n → (es more : List (WorldEvent P)) �
 
 -- The first k records of each replica, k its commit-number, are a beginning of what is committed.
 abbrev pub ReplicasAgree : Type 0 → Type 0
-ReplicasAgree P = (n : ℕ) → IsSize n → (es : List (WorldEvent P)) (i : ℕ) (r : State P) → (after n es).replicas i ≡ Some r →
+ReplicasAgree P = (n : ℕ) → IsSize n → (es : List (WorldEvent P)) (i : ℕ) (r : State P) → (after n es).replicas i ≡
+    Some r →
     IsPrefix (take r.commit_number r.log) (committed n (after n es).messages)
 
 -- A replica's log has the records that its commit-number counts.
 abbrev pub CommitsAreHeld : Type 0 → Type 0
-CommitsAreHeld P = (n : ℕ) → IsSize n → (es : List (WorldEvent P)) (i : ℕ) (r : State P) → (after n es).replicas i ≡ Some r → r.commit_number ≤ length r.log
+CommitsAreHeld P = (n : ℕ) → IsSize n → (es : List (WorldEvent P)) (i : ℕ) (r : State P) → (after n es).replicas i ≡
+    Some r → r.commit_number ≤ length r.log
 
 -- Each client's request numbers rise along what is committed.
 abbrev pub NumbersRise : Type 0 → Type 0
@@ -86,7 +88,8 @@ pub record IsHeld {P : Type 0} (w : World P) (l : List (LogEntry P)) : Type 0 wh
 
 -- Of any majority of replicas that take part, one has all that is committed.
 abbrev pub MajoritiesHold : Type 0 → Type 0
-MajoritiesHold P = (n : ℕ) → IsSize n → (es : List (WorldEvent P)) (quorum : ℕ → Bool) → n / 2 < count quorum (indices n) →
+MajoritiesHold P = (n : ℕ) → IsSize n → (es : List (WorldEvent P)) (quorum : ℕ → Bool) →
+    n / 2 < count quorum (indices n) →
     ((j : ℕ) → quorum j ≡ true → TakesPart (after n es) j) → IsHeld (after n es) (committed n (after n es).messages)
 
 -- The event doesn't bring replica i back.
@@ -100,9 +103,11 @@ abbrev pub AreApart : {P : Type 0} → ℕ → List (WorldEvent P) → Type 0
 AreApart i [] = Unit {0}
 AreApart i (e ∷ es) = IsApart i e × AreApart i es
 
--- A replica that takes part, crashes and goes on from its journal has its view, its last normal view and its log as they were, whatever
+-- A replica that takes part, crashes and goes on from its journal has its view, its last normal view and its log as
+-- they were, whatever
 -- happened to the others meanwhile.
 abbrev pub JournalsKeep : Type 0 → Type 0
 JournalsKeep P = (n : ℕ) → IsSize n → (es more : List (WorldEvent P)) (i k : ℕ) (r : State P) →
     i < n → (after n es).replicas i ≡ Some r → is_recovering r.status ≡ false → AreApart i more →
-    (after n (es ++ (Crash i ∷ (more ++ Resume i k ∷ [])))).replicas i ≡ Some (resuming n r.view_number k (own_change r))
+    (after n (es ++ (Crash i ∷ (more ++ Resume i k ∷ [])))).replicas i ≡
+    Some (resuming n r.view_number k (own_change r))

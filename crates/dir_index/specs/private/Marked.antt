@@ -71,7 +71,8 @@ is_from_several ks t several (Run u g) = false
 abbrev pub is_from_attribute : List Kinds → KeyedAttribute → List KeyedAttribute → Posting → Bool
 is_from_attribute ix a e p =
     let ks = kinds_of ix a.kind in
-    is_from_presence ks a.kind p || (is_from_several ks a.kind (makes_several a e) p || list_any (is_from_key ks a.kind p) a.keys)
+    is_from_presence ks a.kind p || (is_from_several ks a.kind (makes_several a e) p || list_any
+    (is_from_key ks a.kind p) a.keys)
 
 -- whether the list of a key is one that is kept and lists the entry
 abbrev pub lists_by : List Kinds → List KeyedAttribute → ListKey → Bool

@@ -10,4 +10,5 @@ AreRising ls = AllByRecursion IsRising ls
 
 -- Lists that together have what some lists had and the numbers of one more, and nothing else.
 abbrev pub HaveTogether : List (List ℕ) → List ℕ → List (List ℕ) → Type 0
-HaveTogether before ns after = (n : ℕ) → list_any (has_number n) after ≡ (list_any (has_number n) before || has_number n ns)
+HaveTogether before ns after = (n : ℕ) → list_any (has_number n) after ≡ (list_any (has_number n) before || has_number
+    n ns)

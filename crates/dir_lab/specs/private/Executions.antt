@@ -45,7 +45,8 @@ moved_on records w (Search i named q) = records
 moved_on records w (Question i) = records
 
 -- What a lab shows at all of these, from this world and these lists on.
-abbrev pub played_from : SchemaModel → List RdnModel → ℕ → List LabEvent → World OpValue → (ℕ → List (LogEntry OpValue)) → List Shown
+abbrev pub played_from : SchemaModel → List RdnModel → ℕ → List LabEvent → World OpValue →
+    (ℕ → List (LogEntry OpValue)) → List Shown
 played_from s root n [] w records = []
 played_from s root n (e ∷ es) w records =
     shown_at s root n (moved_on records (run n (happening e) w) e) w (run n (happening e) w) e
@@ -70,12 +71,14 @@ abbrev pub AreOver : SchemaModel → List RdnModel → List (Option ExecutedValu
 AreOver s root kept = (i : ℕ) (o : Option ExecutedValue) → slice_get kept i ≡ Some o → IsOver s root o
 
 -- what is kept at one place has caught up with the replica there, and at the others it is as it was
-pub record IsAdvancedAt (w : World OpValue) (old : List (Option ExecutedValue)) (i : ℕ) (new : List (Option ExecutedValue)) : Type 0 where
+pub record IsAdvancedAt (w : World OpValue) (old : List (Option ExecutedValue)) (i : ℕ)
+    (new : List (Option ExecutedValue)) : Type 0 where
   pub counted : length new ≡ length old
   pub here : records_by new i ≡ caught_up (records_by old i) (w.replicas i)
   pub there : (j : ℕ) → j ≢ i → records_by new j ≡ records_by old j
 
--- what a run of a lab has so far: as many replicas as there are to be, and something kept of each, over the schema and the root
+-- what a run of a lab has so far: as many replicas as there are to be, and something kept of each, over the schema and
+-- the root
 pub record IsRunning (s : SchemaModel) (root : List RdnModel) (n : ℕ) (run : LabRun) : Type 0 where
   pub counted : run.cluster.count ≡ n
   pub kept : length run.kept.items ≡ n
@@ -85,4 +88,5 @@ pub record IsRunning (s : SchemaModel) (root : List RdnModel) (n : ℕ) (run : L
 pub record IsNext (s : SchemaModel) (root : List RdnModel) (n : ℕ) (old new : LabRun) (e : LabEvent) : Type 0 where
   pub world : world_of new.cluster ≡ run n (happening e) (world_of old.cluster)
   pub records : records_by new.kept.items ≡ moved_on (records_by old.kept.items) (world_of new.cluster) e
-  pub shown : map shown_view new.shown.items ≡ map shown_view old.shown.items ++ shown_at s root n (records_by new.kept.items) (world_of old.cluster) (world_of new.cluster) e
+  pub shown : map shown_view new.shown.items ≡ map shown_view old.shown.items ++ shown_at s root n
+      (records_by new.kept.items) (world_of old.cluster) (world_of new.cluster) e

@@ -80,21 +80,25 @@ abbrev pub HeldPlaced : MemoryModel → Type 0
 HeldPlaced d = IsWellPlaced (seen_after d.base d.events)
 
 -- A node took some of these events, each a step.
-pub record Took (events : List (Event OpValue)) (old new : MemoryNode) (outs : List (Result (Outputs OpValue) AllocError)) (behind : Bool) : Type 0 where
+pub record Took (events : List (Event OpValue)) (old new : MemoryNode)
+    (outs : List (Result (Outputs OpValue) AllocError)) (behind : Bool) : Type 0 where
   pub steps : MakesSteps old.count old.index old.replica events outs new.replica
-  pub executed : CatchesUp behind old.executed.records (due_after (length old.executed.records) new.replica.commit_number new.replica.log) new.executed.records
+  pub executed : CatchesUp behind old.executed.records (due_after (length old.executed.records)
+      new.replica.commit_number new.replica.log) new.executed.records
   pub pair : KeepsIt new
   pub log : LogsIt new
   pub running : new.is_halted ≡ false
   pub same : IsSameNode old new
   pub placed : old.is_halted ≡ false → HeldPlaced old.device → IsPlaced new.device
 
--- A node's process ended inside a call: the node took some first of these events, the pair's device holds the pair from before them or from after, and
+-- A node's process ended inside a call: the node took some first of these events, the pair's device holds the pair from
+-- before them or from after, and
 -- the journal, where there is one, tells the replica after them.
 pub record EndedInside (events : List (Event OpValue)) (old : MemoryNode) (left : Left) : Type 0 where
   pub replica : State OpValue
   pub steps : MakesSome old.count old.index old.replica events replica
-  pub pair : (found old.cluster left.image.items ≡ own (pair_of old)) ⊎ (found old.cluster left.image.items ≡ own (record (pair_of old) { view = replica.view_number }))
+  pub pair : (found old.cluster left.image.items ≡ own (pair_of old))
+      ⊎ (found old.cluster left.image.items ≡ own (record (pair_of old) { view = replica.view_number }))
   pub placed : IsWellPlaced left.image.items
   pub journaled : is_some left.journal ≡ is_some old.journal
   pub log : TellsIn (head old) replica left.journal
@@ -119,7 +123,8 @@ abbrev pub IsGiven : ℕ → List (Event OpValue) → Process → Process → Ma
 IsGiven i events (Up old f) (Up new g) (reply.Handled j outs behind) = (j ≡ i) × Took events old new outs.items behind
 IsGiven i events (Up old f) (Up new g) (reply.Refused j e) = (j ≡ i) × (e ≡ NoMemory) × (new ≡ old)
 IsGiven i events (Up old f) (Down left) (reply.Stopped j e) =
-    (j ≡ i) × (e ≢ NoMemory) × (old.is_halted ≡ false → HeldPlaced old.device → KeepsIt old → EndedInside events old left)
+    (j ≡ i) × (e ≢ NoMemory) × (old.is_halted ≡ false → HeldPlaced old.device → KeepsIt old →
+    EndedInside events old left)
 IsGiven i events (Down old) (Down new) reply.Nothing = new ≡ old
 IsGiven i events (Unborn old) (Unborn new) reply.Nothing = Unit {0}
 IsGiven i events _ _ _ = ⊥
@@ -182,14 +187,16 @@ pub record StartsOver (m : Machine) (i : ℕ) (left : Left) (n : MemoryNode) (ou
 -- A start that was refused leaves the octets that were there, or the pair from before it or from after it.
 abbrev pub IsPairLeft : Machine → ℕ → (old new : Left) → Type 0
 IsPairLeft m i old new = (new.image.items ≡ old.image.items)
-    ⊎ ((pair : Pair) × (start : Restart) × (found m.cluster old.image.items ≡ own pair) × IsStartOver (owner m i) pair old.journal start
+    ⊎ ((pair : Pair) × (start : Restart) × (found m.cluster old.image.items ≡ own pair) × IsStartOver (owner m i) pair
+    old.journal start
     × IsFormerOrNew m.cluster (own pair) start.pair new.image.items)
 
 -- And a journal that is read as before, or as that and some first of what it notes.
 abbrev pub IsLogLeft : Machine → ℕ → Left → Option (Vec ℕ Global) → Option (Vec ℕ Global) → Type 0
 IsLogLeft m i left None None = Unit {0}
 IsLogLeft m i left (Some old) (Some new) = (recorded new.items ≡ recorded old.items)
-    ⊎ ((pair : Pair) × (start : Restart) × (found m.cluster left.image.items ≡ own pair) × IsRestart (owner m i) pair (recorded old.items) start
+    ⊎ ((pair : Pair) × (start : Restart) × (found m.cluster left.image.items ≡ own pair) × IsRestart (owner m i) pair
+    (recorded old.items) start
     × IsBegun (recorded old.items) start.notes new.items)
 IsLogLeft m i left _ _ = ⊥
 
@@ -201,11 +208,13 @@ pub record IsLeftByStart (m : Machine) (i : ℕ) (old new : Left) : Type 0 where
 -- Replica i's process starts, if it isn't up.
 abbrev pub IsStarted : Machine → ℕ → Process → Process → MachineReply → Type 0
 IsStarted m i (Unborn old) (Up n f) (reply.Started j restarts out) =
-    (j ≡ i) × (restarts ≡ n.restarts) × IsBorn m i (first m.count) 1 n × (given n.replica out ≡ idle (first m.count)) × IsPlaced n.device × (is_some n.journal ≡ m.journaled)
+    (j ≡ i) × (restarts ≡ n.restarts) × IsBorn m i (first m.count) 1 n × (given n.replica out ≡ idle (first m.count))
+    × IsPlaced n.device × (is_some n.journal ≡ m.journaled)
 IsStarted m i (Unborn old) (Unborn new) x = IsRefusal i x
 IsStarted m i (Down left) (Up n f) (reply.Started j restarts out) =
     (j ≡ i) × (restarts ≡ n.restarts) × StartsOver m i left n out × (IsWellPlaced left.image.items → IsPlaced n.device)
-IsStarted m i (Down old) (Down new) x = IsRefusal i x × (IsWellPlaced old.image.items → (p : Pair) → found m.cluster old.image.items ≡ own p → IsLeftByStart m i old new)
+IsStarted m i (Down old) (Down new) x = IsRefusal i x × (IsWellPlaced old.image.items → (p : Pair) →
+    found m.cluster old.image.items ≡ own p → IsLeftByStart m i old new)
 IsStarted m i (Up old f) (Up new g) reply.Nothing = new ≡ old
 IsStarted m i _ _ _ = ⊥
 
@@ -229,7 +238,8 @@ pub record IsEarlyAt (n : MemoryNode) (named number : ℕ) : Type 0 where
 
 -- What is shown of a search at a process.
 abbrev pub IsSearched : ℕ → ℕ → SearchRequestValue → Process → MachineReply → Type 0
-IsSearched i named q (Up n f) (reply.Found j number a) = (j ≡ i) × IsFoundBy n named number (λ d. answer d q) (answer_view a)
+IsSearched i named q (Up n f) (reply.Found j number a) = (j ≡ i) × IsFoundBy n named number (λ d. answer d q)
+    (answer_view a)
 IsSearched i named q (Up n f) (reply.NotYet j number) = (j ≡ i) × IsEarlyAt n named number
 IsSearched i named q (Up n f) (reply.Refused j e) = (j ≡ i) × (e ≡ NoMemory)
 IsSearched i named q (Up n f) _ = ⊥
@@ -238,7 +248,8 @@ IsSearched i named q _ _ = ⊥
 
 -- What is shown of a compare at a process.
 abbrev pub IsCompared : ℕ → ℕ → CompareRequestValue → Process → MachineReply → Type 0
-IsCompared i named q (Up n f) (reply.Compared j number r) = (j ≡ i) × IsFoundBy n named number (λ d. compared d q) (reply_view r)
+IsCompared i named q (Up n f) (reply.Compared j number r) = (j ≡ i) × IsFoundBy n named number (λ d. compared d q)
+    (reply_view r)
 IsCompared i named q (Up n f) (reply.NotYet j number) = (j ≡ i) × IsEarlyAt n named number
 IsCompared i named q (Up n f) (reply.Refused j e) = (j ≡ i) × (e ≡ NoMemory)
 IsCompared i named q (Up n f) _ = ⊥
@@ -247,6 +258,7 @@ IsCompared i named q _ _ = ⊥
 
 -- What is shown of how far a process is.
 abbrev pub IsToldOf : ℕ → Process → MachineReply → Type 0
-IsToldOf i (Up n f) x = x ≡ reply.Standing i n.replica.view_number (standing_of n) (length n.replica.log) n.replica.commit_number
+IsToldOf i (Up n f) x = x ≡ reply.Standing i n.replica.view_number (standing_of n) (length n.replica.log)
+    n.replica.commit_number
 IsToldOf i _ reply.Nothing = Unit {0}
 IsToldOf i _ _ = ⊥

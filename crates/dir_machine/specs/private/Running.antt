@@ -31,7 +31,8 @@ use Rattle.dir_machine.specs.declared.replies.MachineReply.TheVariants as reply
 use Rattle.dir_machine.specs.declared.running.Running.{Running}
 use Rattle.dir_machine.specs.private.Processes.{IsNew, IsPlaced, KeepsIt, LogsIt, MemoryNode}
 
--- Laws of the crates below: strings of a journal tell one thing; a replica that isn't normal after a step recovers if it did before; a client table's
+-- Laws of the crates below: strings of a journal tell one thing; a replica that isn't normal after a step recovers if
+-- it did before; a client table's
 -- place is that of the client's record.
 pub record Laws : Type 0 where
   pub one : OneIsTold
@@ -108,7 +109,8 @@ StandsFor m w i s (Unborn image) = (s ≡ unborn) × IsUnborn m w i
 
 -- Each message that was given out is one of the world.
 abbrev pub AreSent : List MachineReply → World OpValue → Type 0
-AreSent shown w = (place : Place) (x : Message OpValue) → message_at shown place ≡ Some x → (number : ℕ) × (sent_as number w.messages ≡ Some x)
+AreSent shown w = (place : Place) (x : Message OpValue) → message_at shown place ≡ Some x → (number : ℕ)
+    × (sent_as number w.messages ≡ Some x)
 
 -- So many processes, none of which was ever up.
 pub record AreNew (count : ℕ) (processes : List Process) : Type 0 where
@@ -116,13 +118,15 @@ pub record AreNew (count : ℕ) (processes : List Process) : Type 0 where
   pub each : (i : ℕ) (p : Process) → slice_get processes i ≡ Some p → IsNew p
 
 -- What a run has stands for a world.
-pub record Stands (m : Machine) (w : World OpValue) (processes : List Process) (shown : List MachineReply) : Type 0 where
+pub record Stands (m : Machine) (w : World OpValue) (processes : List Process) (shown : List MachineReply) :
+    Type 0 where
   pub counted : length processes ≡ m.count
   pub each : (i : ℕ) (p : Process) → slice_get processes i ≡ Some p → StandsFor m w i (stage shown i) p
   pub sent : AreSent shown w
 
 -- So much of a schedule was played.
-pub record IsPlayed (m : Machine) (played : List MachineEvent) (processes : List Process) (shown : List MachineReply) : Type 0 where
+pub record IsPlayed (m : Machine) (played : List MachineEvent) (processes : List Process)
+    (shown : List MachineReply) : Type 0 where
   pub happened : List (List (WorldEvent OpValue))
   pub in_turn : HappenInTurn (arc_value m.schema) m.suffix m.count m.journaled [] played shown happened (start m.count)
   pub stands : Stands m (after m.count (joined happened)) processes shown
@@ -130,7 +134,8 @@ pub record IsPlayed (m : Machine) (played : List MachineEvent) (processes : List
 -- A run goes on by one event.
 pub record GoesOn (m : Machine) (e : MachineEvent) (old new : Running) : Type 0 where
   pub counted : length new.processes.items ≡ length old.processes.items
-  pub played : IsSize m.count → (es : List MachineEvent) → IsPlayed m es old.processes.items old.shown.items → IsPlayed m (es ++ e ∷ []) new.processes.items new.shown.items
+  pub played : IsSize m.count → (es : List MachineEvent) → IsPlayed m es old.processes.items old.shown.items →
+      IsPlayed m (es ++ e ∷ []) new.processes.items new.shown.items
 
 -- Nothing was there.
 pub record IsNothingShown (old new : Running) : Type 0 where

@@ -19,6 +19,7 @@ IsToldIn seen None t r = Unit {0}
 IsToldIn seen (Some j) t r = IsMemory t r (recorded (seen j.device))
 
 -- A journal goes along as its replica comes from r to s: it is settled, and tells s where it told r.
-pub record GoesAlong {J : Type 0} (seen : J → List ℕ) (may_leave : J → List ℕ → Type 0) (r s : State OpValue) (old new : Option (Journal J)) : Type 0 where
+pub record GoesAlong {J : Type 0} (seen : J → List ℕ) (may_leave : J → List ℕ → Type 0) (r s : State OpValue)
+    (old new : Option (Journal J)) : Type 0 where
   pub held : IsHeldIn seen may_leave new
   pub told : (t : Told) → IsToldIn seen old t r → IsToldIn seen new t s

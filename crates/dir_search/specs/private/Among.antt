@@ -9,7 +9,8 @@ use Rattle.indexed_tree.specs.directory_api.declared.search_answer.SearchAnswer.
 
 -- what is found among the entries of these numbers
 abbrev pub FindsOf : BoundSearch → List ℕ → SearchAnswer → Type 0
-FindsOf b ks a = FindsAmong a b.schema.now (search_view b.request.now) b.indexed.now.indexes b.bound.now b.indexed.now.tree.entries ks
+FindsOf b ks a = FindsAmong a b.schema.now (search_view b.request.now) b.indexed.now.indexes b.bound.now
+    b.indexed.now.tree.entries ks
 
 -- what is found among the entries whose name passes a test
 abbrev pub FindsWhere : BoundSearch → (NameKey → Bool) → SearchAnswer → Type 0

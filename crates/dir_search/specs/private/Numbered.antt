@@ -21,4 +21,5 @@ entries_of (k ∷ ks) d = put_some (entry_at k d) (entries_of ks d)
 
 -- what a search shows of the entries of these numbers that match, up to the limit
 abbrev pub found_of : SchemaModel → SearchRequestValue → List ℕ → List Entered → Answer
-found_of s q ks d = limited q.size_limit (map (selected s q.attributes q.types_only) (filter (is_match s q.filter) (map named (entries_of ks d))))
+found_of s q ks d = limited q.size_limit (map (selected s q.attributes q.types_only)
+    (filter (is_match s q.filter) (map named (entries_of ks d))))

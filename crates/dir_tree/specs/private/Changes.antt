@@ -1,4 +1,5 @@
--- What is kept of the entries once one of them has come, gone, or gone to another place with all that stands below it. What a directory is then
+-- What is kept of the entries once one of them has come, gone, or gone to another place with all that stands below it.
+-- What a directory is then
 -- is in `Directory`.
 use Rattle.std.specs.Prelude.{◌≡◌, ℕ, ◌-◌, Bool, false, cond, ◌&&◌, ◌||◌, not, List, [], ◌∷◌, length, drop, Option, None, Some, nat_eq}
 use Rattle.std.specs.Option.{option_map_or}
@@ -33,38 +34,47 @@ steps_after k old new n b x = cond (stands_at b x new) (Some k) (cond (stands_at
 abbrev pub child_after : ℕ → Option Place → Option Place → ℕ → ℕ → Bool → Bool
 child_after k old new x j was = (stands_under x new && nat_eq j k) || (not (stands_under x old && nat_eq j k) && was)
 
--- whether x has j at or below it, once k has gone with what is below it: from under the ones over its old place to those over its new one
+-- whether x has j at or below it, once k has gone with what is below it: from under the ones over its old place to
+-- those over its new one
 abbrev pub over_after : Bool → Bool → Bool → Bool → Bool
 over_after up up' moves was = (up' && not up && moves) || (not (up && not up' && moves) && was)
 
 -- what is kept below numbers, once k has gone from one place to another
-pub record IsAfter (k : ℕ) (old new : Option Place) (i : ℕ) (p : Places) (n n' : Steps) (b b' : ℕ → Below) : Type 0 where
+pub record IsAfter (k : ℕ) (old new : Option Place) (i : ℕ) (p : Places) (n n' : Steps) (b b' : ℕ → Below) :
+    Type 0 where
   pub steps : (a : ℕ) (x : List TypeAndKey) → n' a x ≡ steps_after k old new n a x
   pub children : (x j : ℕ) → has_number j (b' x).children ≡ child_after k old new x j (has_number j (b x).children)
-  pub within : (x j : ℕ) → has_number j (b' x).within ≡ over_after (is_above i p x old) (is_above i p x new) (is_over i p k j) (has_number j (b x).within)
+  pub within : (x j : ℕ) → has_number j (b' x).within ≡ over_after (is_above i p x old) (is_above i p x new)
+      (is_over i p k j) (has_number j (b x).within)
 
 -- The sets of some numbers, where they didn't hold a certain number before, have some numbers more.
-pub record IsJoined (up : ℕ → Bool) (before : ℕ → Below) (except : Option ℕ) (ks : List ℕ) (b b' : ℕ → Below) : Type 0 where
+pub record IsJoined (up : ℕ → Bool) (before : ℕ → Below) (except : Option ℕ) (ks : List ℕ) (b b' : ℕ → Below) :
+    Type 0 where
   pub names : (x : ℕ) → (b' x).names ≡ (b x).names
   pub children : (x : ℕ) → (b' x).children ≡ (b x).children
-  pub within : (x j : ℕ) → has_number j (b' x).within ≡ ((up x && not (holds before x except) && has_number j ks) || has_number j (b x).within)
+  pub within : (x j : ℕ) → has_number j (b' x).within ≡ ((up x && not (holds before x except) && has_number j ks) ||
+      has_number j (b x).within)
 
 -- The same with some numbers fewer.
-pub record IsParted (up : ℕ → Bool) (before : ℕ → Below) (except : Option ℕ) (ks : List ℕ) (b b' : ℕ → Below) : Type 0 where
+pub record IsParted (up : ℕ → Bool) (before : ℕ → Below) (except : Option ℕ) (ks : List ℕ) (b b' : ℕ → Below) :
+    Type 0 where
   pub names : (x : ℕ) → (b' x).names ≡ (b x).names
   pub children : (x : ℕ) → (b' x).children ≡ (b x).children
-  pub within : (x j : ℕ) → has_number j (b' x).within ≡ (not (up x && not (holds before x except) && has_number j ks) && has_number j (b x).within)
+  pub within : (x j : ℕ) → has_number j (b' x).within ≡ (not (up x && not (holds before x except) && has_number j ks)
+      && has_number j (b x).within)
 
 -- what is kept below numbers with the steps to number k by its place, or without them
 pub record IsLinked (k : ℕ) (place : Option Place) (n n' : Steps) (b b' : ℕ → Below) : Type 0 where
   pub steps : (a : ℕ) (x : List TypeAndKey) → n' a x ≡ cond (stands_at a x place) (Some k) (n a x)
-  pub children : (a j : ℕ) → has_number j (b' a).children ≡ ((stands_under a place && nat_eq j k) || has_number j (b a).children)
+  pub children : (a j : ℕ) → has_number j (b' a).children ≡ ((stands_under a place && nat_eq j k) || has_number j
+      (b a).children)
   pub within : (a : ℕ) → (b' a).within ≡ (b a).within
 
 -- what is kept below numbers without the steps to number k from its place
 pub record IsUnlinked (k : ℕ) (place : Option Place) (n n' : Steps) (b b' : ℕ → Below) : Type 0 where
   pub steps : (a : ℕ) (x : List TypeAndKey) → n' a x ≡ cond (stands_at a x place) None (n a x)
-  pub children : (a j : ℕ) → has_number j (b' a).children ≡ (not (stands_under a place && nat_eq j k) && has_number j (b a).children)
+  pub children : (a j : ℕ) → has_number j (b' a).children ≡ (not (stands_under a place && nat_eq j k)
+      && has_number j (b a).children)
   pub within : (a : ℕ) → (b' a).within ≡ (b a).within
 
 -- the last of a name, under a number

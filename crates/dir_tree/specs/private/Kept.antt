@@ -27,7 +27,8 @@ pub record IsPlaced (old : Roots) (k : ℕ) (v : Standing) (root : Option ℕ) (
   pub bound : r.reach ≡ reach
   pub entries : r.entries ≡ insert_entry nat_cmp old.entries k v
   pub rises : Rises nat_cmp r.entries
-  pub after : IsAfter k (place_at old.entries k) (Some v.place) old.reach (place_at old.entries) (step_at old.levels) (step_at r.levels) (below_at old.levels) (below_at r.levels)
+  pub after : IsAfter k (place_at old.entries k) (Some v.place) old.reach (place_at old.entries) (step_at old.levels)
+      (step_at r.levels) (below_at old.levels) (below_at r.levels)
   pub none : r.none ≡ []
 
 -- the number of the root's entry, unless it is this one
@@ -42,5 +43,6 @@ pub record IsRemoved (old : Roots) (k : ℕ) (r : Roots) : Type 0 where
   pub bound : r.reach ≡ old.reach
   pub entries : r.entries ≡ remove_entry (is_at (nat_cmp k)) old.entries
   pub rises : Rises nat_cmp r.entries
-  pub after : IsAfter k (place_at old.entries k) None old.reach (place_at old.entries) (step_at old.levels) (step_at r.levels) (below_at old.levels) (below_at r.levels)
+  pub after : IsAfter k (place_at old.entries k) None old.reach (place_at old.entries) (step_at old.levels)
+      (step_at r.levels) (below_at old.levels) (below_at r.levels)
   pub none : r.none ≡ []

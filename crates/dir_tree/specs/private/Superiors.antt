@@ -87,7 +87,8 @@ number_among x names = lookup (λ (r : RdnModel). are_same_keys x r.keys) names
 abbrev pub step_at : List (ℕ × Below) → Steps
 step_at bs a x = number_among x (below_at bs a).names
 
--- Each way up ends within i numbers, over entries; one entry is the root's, and it has the suffix's name; and the steps down are those up.
+-- Each way up ends within i numbers, over entries; one entry is the root's, and it has the suffix's name; and the steps
+-- down are those up.
 pub record IsHung (suffix : NameKey) (root : Option ℕ) (i : ℕ) (p : Places) (n : Steps) : Type 0 where
   pub ends : (k : ℕ) → ends i p k ≡ true
   pub over : (k a : ℕ) → above_in (p k) ≡ Some a → is_some (p a) ≡ true

@@ -12,11 +12,14 @@ use Rattle.dir_tree.specs.declared.place.Place.TheVariants.{Under}
 use Rattle.dir_tree.specs.declared.place.Standing.{Standing}
 use Rattle.dir_tree.specs.declared.visit.Row.{Row}
 
--- the entries are those of the tree, and where one stands under another one, its name is the other's and its relative name behind it
+-- the entries are those of the tree, and where one stands under another one, its name is the other's and its relative
+-- name behind it
 pub record IsVisit (d : TreeModel) (es : List (ℕ × Standing)) : Type 0 where
-  pub entries : (k : ℕ) → option_map (λ (s : Standing). s.entry) (lookup (is_at (nat_cmp k)) es) ≡ option_map (λ e. e.entry) (entry_at k d.entries)
+  pub entries : (k : ℕ) → option_map (λ (s : Standing). s.entry) (lookup (is_at (nat_cmp k)) es) ≡
+      option_map (λ e. e.entry) (entry_at k d.entries)
   pub names : (k a : ℕ) (r : RdnModel) → place_at es k ≡ Some (Under a r)
-      → (is_some (entry_at k d.entries) ≡ true) × (option_map (λ e. e.name) (entry_at k d.entries) ≡ option_map (λ e. e.name ++ r ∷ []) (entry_at a d.entries))
+      → (is_some (entry_at k d.entries) ≡ true) × (option_map (λ e. e.name) (entry_at k d.entries) ≡
+      option_map (λ e. e.name ++ r ∷ []) (entry_at a d.entries))
 
 -- a row has what stands at its numbers, of which none is above the greatest that there is
 abbrev pub IsRow : Row → List (ℕ × Standing) → Type 0

@@ -13,8 +13,10 @@ use Rattle.local_directory.specs.indexed_tree.Directory.{Directory}
 abbrev pub Turns : (List ℕ → List ℕ → Type 0) → Option (List ℕ) → Option (List ℕ) → Option (List ℕ) → Type 0
 Turns IsMade input output grown = IfSome input (λ text. (made : List ℕ) × IsMade text made × Appends output grown made)
 
--- the request of these words: the filter is the one that its text spells (RFC 4515), and there are no limits (RFC 4511 4.5.1)
-pub record IsRequestOf (base : List ℕ) (scope : Scope) (filter : List ℕ) (attributes : List (List ℕ)) (q : SearchRequestValue) : Type 0 where
+-- the request of these words: the filter is the one that its text spells (RFC 4515), and there are no limits (RFC 4511
+-- 4.5.1)
+pub record IsRequestOf (base : List ℕ) (scope : Scope) (filter : List ℕ) (attributes : List (List ℕ))
+    (q : SearchRequestValue) : Type 0 where
   pub tree : Tree
   pub spelled : IsFilterText tree filter
   pub asks : q ≡ record {
@@ -28,8 +30,10 @@ pub record IsRequestOf (base : List ℕ) (scope : Scope) (filter : List ℕ) (at
     attributes = attributes;
   }
 
--- what is made of an LDIF text: the answer to the request of these words, over the directory that its records make of this one
-pub record IsAnswerTo (d : Directory) (base : List ℕ) (scope : Scope) (filter : List ℕ) (attributes : List (List ℕ)) (text made : List ℕ) : Type 0 where
+-- what is made of an LDIF text: the answer to the request of these words, over the directory that its records make of
+-- this one
+pub record IsAnswerTo (d : Directory) (base : List ℕ) (scope : Scope) (filter : List ℕ) (attributes : List (List ℕ))
+    (text made : List ℕ) : Type 0 where
   pub request : SearchRequestValue
   pub asked : IsRequestOf base scope filter attributes request
   pub searched : IsSearched d text request made

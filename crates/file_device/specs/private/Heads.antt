@@ -1,4 +1,5 @@
--- The octets that the file of a journal begins with: whose it is, spelled as a note that begins a journal, in a frame of its own.
+-- The octets that the file of a journal begins with: whose it is, spelled as a note that begins a journal, in a frame
+-- of its own.
 use Rattle.std.specs.Prelude.{ℕ, List, [], ◌∷◌, ◌++◌, take}
 use Rattle.std.specs.Int.{w64, to_be_bytes}
 use Rattle.sha2.specs.Sha256.{sha256}
@@ -17,7 +18,8 @@ sum_of octets = take 8 (sha256 octets)
 -- what stands before the sum of a beginning: the kind 0, the version, whose it is, 0, and what follows the numbers
 abbrev pub body_of : ℕ → ReplicaId → List ℕ → List ℕ
 body_of version replica rest =
-    0 ∷ (numeral version ++ (numeral replica.cluster ++ (numeral replica.index ++ (numeral replica.count ++ (numeral 0 ++ rest)))))
+    0 ∷ (numeral version ++ (numeral
+    replica.cluster ++ (numeral replica.index ++ (numeral replica.count ++ (numeral 0 ++ rest)))))
 
 -- the string of a beginning
 abbrev pub beginning : ℕ → ReplicaId → List ℕ → List ℕ

@@ -1,4 +1,5 @@
--- The mark in the first block of a journal's file: up to where the journal was synced, with a sum that tells whether the mark is whole.
+-- The mark in the first block of a journal's file: up to where the journal was synced, with a sum that tells whether
+-- the mark is whole.
 use Rattle.std.specs.Prelude.{◌≡◌, ℕ, List, slice_range}
 use Rattle.file_device.specs.private.Heads.{numeral, sum_of}
 

@@ -67,7 +67,8 @@ substrings_of d i o =
 
 -- an asterisk between two texts
 abbrev pub starred : List ℕ → List ℕ → List ℕ → Option Item
-starred d f b = cond (is_empty f && is_empty b) (Some (presence d)) (option_and_then (λ i. substrings_of d i (parts_of b)) (part_of f))
+starred d f b = cond (is_empty f && is_empty b) (Some (presence d))
+    (option_and_then (λ i. substrings_of d i (parts_of b)) (part_of f))
 
 -- a text up to its first asterisk, and from there
 abbrev pub equal_or_starred : List ℕ → List ℕ → List ℕ → List ℕ → Option Item
@@ -108,7 +109,13 @@ described_by (c ∷ cs) = Some (c ∷ cs)
 abbrev pub extensible_with : List ℕ → Applied → Option Item
 extensible_with d a =
     option_map
-    (λ v. extensible (record { matching_rule = a.rule; description = described_by d; match_value = v; dn_attributes = a.dn }))
+    (λ v. extensible (record {
+      matching_rule = a.rule;
+      description = described_by d;
+      match_value = v;
+      dn_attributes =
+          a.dn;
+    }))
     (value_of a.value)
 
 -- a description, and what stands behind the colon

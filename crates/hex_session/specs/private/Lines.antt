@@ -6,11 +6,13 @@ use Rattle.hex_session.specs.declared.line.Line.{Line}
 use Rattle.hex_session.specs.declared.line.Line.TheVariants.{End, Blank, Piece}
 use Rattle.hex_session.specs.Lines.{first_line, after_line, is_empty, hex_line}
 
--- what an input begins with, and what is left of it: its end, an empty line, or a line that is a piece of a stream in hex
+-- what an input begins with, and what is left of it: its end, an empty line, or a line that is a piece of a stream in
+-- hex
 abbrev pub BeginsWith : List ℕ → Line → Option (List ℕ) → Type 0
 BeginsWith xs End left = (xs ≡ []) × (left ≡ Some [])
 BeginsWith xs Blank left = (is_empty xs ≡ false) × (is_empty (first_line xs) ≡ true) × (left ≡ Some (after_line xs))
-BeginsWith xs (Piece v) left = (is_empty xs ≡ false) × (is_empty (first_line xs) ≡ false) × (decode_of (first_line xs) ≡ Ok v.items) × (left ≡ Some (after_line xs))
+BeginsWith xs (Piece v) left = (is_empty xs ≡ false) × (is_empty (first_line xs) ≡ false)
+    × (decode_of (first_line xs) ≡ Ok v.items) × (left ≡ Some (after_line xs))
 
 -- the same of a line without its end
 abbrev pub IsLineOf : List ℕ → Line → Type 0

@@ -1,4 +1,5 @@
--- The value of a bound filter on the keys of an entry, and what it is bound to: what contracts that aren't public say of it.
+-- The value of a bound filter on the keys of an entry, and what it is bound to: what contracts that aren't public say
+-- of it.
 -- What public contracts say is in specs/Bound.
 use Rattle.std.specs.Prelude.{ℕ, List, [], ◌∷◌, ◌≡◌}
 use Rattle.dir_entry.specs.ldap_schema.Schema.{SchemaModel}
@@ -13,11 +14,13 @@ use Rattle.ldap_eval.specs.Bound.{bound_value, IsBoundTo}
 
 -- A bound item has the item's value on every entry that is keyed by the schema.
 abbrev pub IsBoundItem : SchemaModel → List ℕ → Item → BoundFilter → Type 0
-IsBoundItem s description item b = (n : List RdnModel) (e : List KeyedAttribute) → IsKeyedBy s e → bound_value n e b ≡ item_value s description item (attributes_of e)
+IsBoundItem s description item b = (n : List RdnModel) (e : List KeyedAttribute) → IsKeyedBy s e → bound_value n e b ≡
+    item_value s description item (attributes_of e)
 
 -- the same of an extensible item
 abbrev pub IsBoundMatch : SchemaModel → ExtensibleValue → BoundFilter → Type 0
-IsBoundMatch s x b = (n : List RdnModel) (e : List KeyedAttribute) → IsKeyedBy s e → bound_value n e b ≡ extensible_value s x n (attributes_of e)
+IsBoundMatch s x b = (n : List RdnModel) (e : List KeyedAttribute) → IsKeyedBy s e → bound_value n e b ≡
+    extensible_value s x n (attributes_of e)
 
 -- bound filters stand for filters, one by one
 abbrev pub AreBoundTo : SchemaModel → Trees → List BoundFilter → Type 0

@@ -1,4 +1,5 @@
--- Classes in line (RFC 4512 2.4.2), and the ranks by which they are put in order: what contracts that aren't public say of it.
+-- Classes in line (RFC 4512 2.4.2), and the ranks by which they are put in order: what contracts that aren't public say
+-- of it.
 -- What public contracts say is in specs/Lines.
 use Rattle.std.specs.Prelude.{ℕ, List, [], ◌∷◌, Bool, true, cond, ◌&&◌, ◌||◌, ◌≡◌, ◌<◌, nat_eq, nat_le, nat_lt, map, filter}
 use Rattle.ldap_schema.specs.Schema.{ClassModel}
@@ -21,11 +22,13 @@ falls_whole under (a ∷ bs) = falls under a bs
 
 -- Each class has a greater rank than its direct superclasses.
 abbrev pub IsRanking : List ClassModel → List ℕ → Type 0
-IsRanking classes ranks = (c u : ℕ) → is_among (direct_superclasses classes c) u ≡ true → rank_in ranks u < rank_in ranks c
+IsRanking classes ranks = (c u : ℕ) → is_among (direct_superclasses classes c) u ≡ true → rank_in ranks u < rank_in
+    ranks c
 
 -- of the classes below a number each has a greater rank than its direct superclasses
 abbrev pub IsRankingBelow : List ClassModel → List ℕ → ℕ → Type 0
-IsRankingBelow classes ranks n = (c u : ℕ) → c < n → is_among (direct_superclasses classes c) u ≡ true → rank_in ranks u < rank_in ranks c
+IsRankingBelow classes ranks n = (c u : ℕ) → c < n → is_among (direct_superclasses classes c) u ≡ true →
+    rank_in ranks u < rank_in ranks c
 
 -- a class of the greatest rank
 abbrev pub greatest : List ℕ → ℕ → List ℕ → ℕ

@@ -7,7 +7,8 @@ use Rattle.ldap_schema.specs.private.Lines.{IsRanking}
 use Rattle.ldap_schema.specs.ObjectClassType.{IsObjectClassType}
 
 -- the tables of a schema, and what is checked of it once
-pub record AreTablesOf (s : SchemaModel) (ranks : List ℕ) (is_ranked : Bool) (object_class : ℕ) (type_index class_index : IndexModel) : Type 0 where
+pub record AreTablesOf (s : SchemaModel) (ranks : List ℕ) (is_ranked : Bool) (object_class : ℕ)
+    (type_index class_index : IndexModel) : Type 0 where
   pub loopless : IsLoopless s.types
   pub ranked : IsTrue is_ranked → IsRanking s.classes ranks
   pub superclasses_known : AreSuperclassesKnown s.classes

@@ -59,11 +59,13 @@ IsEarly (EndsWith WriteFailed) = Unit {0}
 IsEarly (EndsWith NoMemory) = Unit {0}
 
 -- Wherever a session stood, it has written more, and comes to this.
-pub record HasWorked {D T : Type 0} (allows : D → Exchange T → D → Type 0) (c : ConfigValue) (old now : D) (s t : SessionValue) (output grown : Option (List ℕ)) (flow : Flow) : Type 0 where
+pub record HasWorked {D T : Type 0} (allows : D → Exchange T → D → Type 0) (c : ConfigValue) (old now : D)
+    (s t : SessionValue) (output grown : Option (List ℕ)) (flow : Flow) : Type 0 where
   pub more : List ℕ
   pub appended : Appends output grown more
   pub early : IsEarly flow
-  pub comes : (first : D) (read written : List ℕ) → Reached octets_of allows c first old s read written → ComesTo allows c first now t read (written ++ more) flow
+  pub comes : (first : D) (read written : List ℕ) → Reached octets_of allows c first old s read written →
+      ComesTo allows c first now t read (written ++ more) flow
 
 -- a piece of the input is taken, unless memory was wanting for it
 abbrev pub Takes : List ℕ → List ℕ → Flow → Type 0
@@ -71,10 +73,12 @@ Takes piece taken Goes = taken ≡ piece
 Takes piece taken (EndsWith end) = (taken ≡ piece) ⊎ ((taken ≡ []) × (end ≡ NoMemory))
 
 -- The same, where it has read a piece before.
-pub record HasFed {D T : Type 0} (allows : D → Exchange T → D → Type 0) (c : ConfigValue) (old now : D) (s t : SessionValue) (piece : List ℕ) (output grown : Option (List ℕ)) (flow : Flow) : Type 0 where
+pub record HasFed {D T : Type 0} (allows : D → Exchange T → D → Type 0) (c : ConfigValue) (old now : D)
+    (s t : SessionValue) (piece : List ℕ) (output grown : Option (List ℕ)) (flow : Flow) : Type 0 where
   pub taken : List ℕ
   pub more : List ℕ
   pub takes : Takes piece taken flow
   pub appended : Appends output grown more
   pub early : IsEarly flow
-  pub comes : (first : D) (read written : List ℕ) → Reached octets_of allows c first old s read written → ComesTo allows c first now t (read ++ taken) (written ++ more) flow
+  pub comes : (first : D) (read written : List ℕ) → Reached octets_of allows c first old s read written →
+      ComesTo allows c first now t (read ++ taken) (written ++ more) flow

@@ -1,4 +1,5 @@
--- Events that can't have a replica adopt a log: a step at one of them notes one string at most, and how long that is, is known before the step.
+-- Events that can't have a replica adopt a log: a step at one of them notes one string at most, and how long that is,
+-- is known before the step.
 use Rattle.std.specs.Prelude.{◌≡◌, ◌≤◌, ◌⊎◌, ℕ, Bool, true, false, not, ◌&&◌, ◌==◌, List, [], ◌∷◌, ◌++◌, length, drop, Option, Some, None}
 use Rattle.std.specs.List.{list_any}
 use Rattle.ldap_op.specs.Values.{OpValue}
@@ -55,6 +56,7 @@ IsOneAtMost room [] = Unit {0}
 IsOneAtMost room (x ∷ []) = length (op_bytes x.payload) ≤ room
 IsOneAtMost room (x ∷ y ∷ l) = ⊥
 
--- What is noted of a step to s is one string at most: a view was entered, or one record was appended, whose update has so many octets at most.
+-- What is noted of a step to s is one string at most: a view was entered, or one record was appended, whose update has
+-- so many octets at most.
 abbrev pub IsNotedByOne : Before → State OpValue → ℕ → Type 0
 IsNotedByOne b s room = (is_normal s.status ≡ false) ⊎ ((only_grew b s ≡ true) × IsOneAtMost room (drop b.length s.log))

@@ -9,7 +9,8 @@ use Rattle.dir_seats.specs.Showing.{Showing}
 abbrev pub given_records : Showing → List (LogEntry OpValue)
 given_records shown = shown.published.records ++ shown.waiting
 
--- What is shown, and what is to be shown next, is the first records of what was executed, over the same schema, root and index choice.
+-- What is shown, and what is to be shown next, is the first records of what was executed, over the same schema, root
+-- and index choice.
 abbrev pub IsGiven : ExecutedValue → Showing → Type 0
 IsGiven executed shown =
     (executed.schema ≡ shown.published.schema)

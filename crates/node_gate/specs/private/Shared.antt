@@ -17,7 +17,8 @@ use Rattle.node_gate.specs.Identities.{NodeIdentity}
 use Rattle.node_gate.specs.Moved.{AreOf, step_at}
 use Rattle.node_gate.specs.Shared.{SettlesAs}
 
--- how a node stands to sessions: as one that recovers, until it has committed as much as its journal told when it went on from it
+-- how a node stands to sessions: as one that recovers, until it has committed as much as its journal told when it went
+-- on from it
 abbrev pub standing_to_sessions : {D J : Type 0} → NodeValue D J → Standing
 standing_to_sessions n = cond (n.catch_up == 0) (standing_of n) Recovering
 
@@ -26,7 +27,8 @@ abbrev pub IsEndedAt : {D J : Type 0} → NodeIdentity → Option (NodeValue D J
 IsEndedAt own None client number ended = ⊥
 IsEndedAt own (Some held) client number ended = SettlesAs own held client number ended
 
--- An update is lost where the node doesn't take it, and isn't made where there is no memory for it; else it ended as its outcome at that state.
+-- An update is lost where the node doesn't take it, and isn't made where there is no memory for it; else it ended as
+-- its outcome at that state.
 abbrev pub IsUpdated : {D J : Type 0} → NodeIdentity → Option (NodeValue D J) → Client → ℕ → EndedValue → Type 0
 IsUpdated own held client number (talk.done place reply) = IsEndedAt own held client number (talk.done place reply)
 IsUpdated own held client number talk.stale = IsEndedAt own held client number talk.stale
@@ -45,22 +47,29 @@ abbrev pub request_of : Client → ℕ → OpValue → Event OpValue
 request_of client number op = event.Request (record { client = client; request_number = number; payload = op })
 
 -- An event was posted, or the node of this identity made its step at it.
-abbrev pub GivesRequest : {D J : Type 0} → NodeIdentity → Option (NodeValue D J × NodeValue D J) → Event OpValue → Type 0
+abbrev pub GivesRequest : {D J : Type 0} → NodeIdentity → Option (NodeValue D J × NodeValue D J) → Event OpValue →
+    Type 0
 GivesRequest own None e = Unit {0}
 GivesRequest own (Some (b, a)) e = AreOf own b a × (a.replica ≡ (step_at b e).state)
 
--- What was given for an update is that client's request of that number for that update, and nothing else; nothing is given where there is no memory for
+-- What was given for an update is that client's request of that number for that update, and nothing else; nothing is
+-- given where there is no memory for
 -- the update.
-abbrev pub IsGivenFor : {D J : Type 0} → NodeIdentity → Option (Event OpValue) → Option (NodeValue D J × NodeValue D J) → Client → ℕ → OpValue → EndedValue → Type 0
+abbrev pub IsGivenFor : {D J : Type 0} → NodeIdentity → Option (Event OpValue) →
+    Option (NodeValue D J × NodeValue D J) → Client → ℕ → OpValue → EndedValue → Type 0
 IsGivenFor own None moved client number op ended = ended ≡ talk.refused_memory
-IsGivenFor own (Some given) moved client number op ended = (given ≡ request_of client number op) × GivesRequest own moved given
+IsGivenFor own (Some given) moved client number op ended = (given ≡ request_of client number op)
+    × GivesRequest own moved given
 
--- what a gate to the node of this identity may be told, where it gave this event, which made this of the node, and then took this state of the node
+-- what a gate to the node of this identity may be told, where it gave this event, which made this of the node, and then
+-- took this state of the node
 -- under the lock
-abbrev pub gates : {D J : Type 0} → NodeIdentity → Option (Event OpValue) → Option (NodeValue D J × NodeValue D J) → Option (NodeValue D J)
+abbrev pub gates : {D J : Type 0} → NodeIdentity → Option (Event OpValue) → Option (NodeValue D J × NodeValue D J) →
+    Option (NodeValue D J)
     → Exchange (Option ExecutedValue) → Type 0
 gates own given moved held (asked_role role told) = Unit {0}
 gates own given moved held (learned told) = ⊥
 gates own given moved held (searched named q looked) = ⊥
 gates own given moved held (compared named q looked) = ⊥
-gates own given moved held (updated client number op ended) = IsGivenFor own given moved client number op ended × IsUpdated own held client number ended
+gates own given moved held (updated client number op ended) = IsGivenFor own given moved client number op ended
+    × IsUpdated own held client number ended

@@ -1,4 +1,5 @@
--- The classes that SUP leads to from one, in the order in which they are reached (RFC 4512 2.4). Descriptions come in, classes go out; no
+-- The classes that SUP leads to from one, in the order in which they are reached (RFC 4512 2.4). Descriptions come in,
+-- classes go out; no
 -- contract of another crate names it.
 use Rattle.std.specs.Prelude.{◌≡◌, ◌++◌, ◌<◌, ◌≤◌, ℕ, List, [], ◌∷◌, Bool, true, false, cond, length, slice_index_or, slice_set, Option, None, Some}
 use Rattle.schema_meaning.specs.Naming.{find, superior_texts}
@@ -46,7 +47,8 @@ pub record IsOrder (classes : List DescriptionModel) (start : ℕ) (order : List
   pub some : 0 < length order
   pub first : class_at order 0 ≡ start
   pub before : (i : ℕ) → 0 < i → i < length order → (slice_index_or order i nowhere).from < i
-  pub above : (i : ℕ) → 0 < i → i < length order → is_right_above classes (class_at order (slice_index_or order i nowhere).from) (class_at order i) ≡ true
+  pub above : (i : ℕ) → 0 < i → i < length order →
+      is_right_above classes (class_at order (slice_index_or order i nowhere).from) (class_at order i) ≡ true
 
 -- a class is among those that were reached
 abbrev pub IsAmongReached : List Step → ℕ → Type 0
@@ -57,5 +59,6 @@ pub record IsReached (classes : List DescriptionModel) (start : ℕ) (place : �
   pub order : IsOrder classes start r.order
   pub count : length r.seen ≡ length classes
   pub seen : (u : ℕ) → slice_index_or r.seen u false ≡ true → IsAmongReached r.order u
-  pub closed : (i u : ℕ) → i < place → i < length r.order → is_right_above classes (class_at r.order i) u ≡ true → (u ≡ start → ⊥) × IsAmongReached r.order u
+  pub closed : (i u : ℕ) → i < place → i < length r.order → is_right_above classes (class_at r.order i) u ≡ true →
+      (u ≡ start → ⊥) × IsAmongReached r.order u
   pub within : place ≤ length r.order

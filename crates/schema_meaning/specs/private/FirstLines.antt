@@ -29,4 +29,5 @@ is_less (Some n) line = nat_lt n line
 -- the first lines of names and of object identifiers of a text
 abbrev pub AreFirst : SchemaTextModel → List (Vec ℕ Global × ℕ) → List (Vec ℕ Global × ℕ) → Type 0
 AreFirst s names oids =
-    ((q : List ℕ) → number_at names q ≡ line_in s (λ d. has_folded q (names_of d))) × ((q : List ℕ) → number_at oids q ≡ line_in s (λ d. bytes_eq q d.oid))
+    ((q : List ℕ) → number_at names q ≡ line_in s (λ d. has_folded q (names_of d)))
+    × ((q : List ℕ) → number_at oids q ≡ line_in s (λ d. bytes_eq q d.oid))

@@ -20,7 +20,8 @@ abbrev pub settled_under : List DescriptionModel → ℕ → Option Effect → O
 settled_under types t None = None
 settled_under types t (Some above) = Some (inherited above (own_at types t))
 
--- what is in effect for a type: under nothing where its SUPs end, under its superior where they go on; none, where they are lost
+-- what is in effect for a type: under nothing where its SUPs end, under its superior where they go on; none, where they
+-- are lost
 abbrev pub gone_on : List DescriptionModel → ℕ → Way → (ℕ → Option Effect) → Option Effect
 gone_on types t Ends f = settled_under types t (Some nothing)
 gone_on types t IsLost f = None

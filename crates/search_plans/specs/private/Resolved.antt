@@ -31,7 +31,8 @@ IsResolved kept p r = (n : ℕ) → is_in_resolved kept r n ≡ is_in_when kept 
 abbrev pub AreResolved : Lists → List Plan → List ResolvedPlan → Type 0
 AreResolved kept ps rs = (n : ℕ) → map (λ r. is_in_resolved kept r n) rs ≡ map (λ p. is_in_when kept true p n) ps
 
--- A resolved plan has the numbers in scope that the plan has. Where all numbers that are asked about are known to be in the plan, this is
+-- A resolved plan has the numbers in scope that the plan has. Where all numbers that are asked about are known to be in
+-- the plan, this is
 -- said of such numbers alone.
 abbrev pub IsResolvedFor : Bool → Lists → Plan → ResolvedPlan → Type 0
 IsResolvedFor is_sure kept p r =
@@ -39,8 +40,10 @@ IsResolvedFor is_sure kept p r =
 
 -- the numbers in scope of the first plan that are not of the second
 abbrev pub IsDifference : ResolvedPlan → ResolvedPlan → ResolvedPlan → Type 0
-IsDifference first second r = (kept : Lists) (n : ℕ) → is_in_resolved kept r n ≡ (is_in_resolved kept first n && not (is_in_resolved kept second n))
+IsDifference first second r = (kept : Lists) (n : ℕ) → is_in_resolved kept r n ≡ (is_in_resolved kept first n
+    && not (is_in_resolved kept second n))
 
 -- two rows of resolved plans have, plan by plan, the same of the numbers from one on
 abbrev pub AreSameInRow : ℕ → Lists → List ResolvedPlan → List ResolvedPlan → Type 0
-AreSameInRow least kept rs qs = (n : ℕ) → least ≤ n → map (λ r. is_in_resolved kept r n) rs ≡ map (λ q. is_in_resolved kept q n) qs
+AreSameInRow least kept rs qs = (n : ℕ) → least ≤ n → map (λ r. is_in_resolved kept r n) rs ≡
+    map (λ q. is_in_resolved kept q n) qs

@@ -25,7 +25,8 @@ pub record IsGuided (must : Bool) (value : Truth) (may : Bool) : Type 0 where
 
 -- where it is known of candidates, they all are in scope
 abbrev pub AreInside : Bool → List ℕ → List ℕ → Type 0
-AreInside is_known candidates scope = is_known ≡ true → (n : ℕ) → has_number n candidates ≡ true → has_number n scope ≡ true
+AreInside is_known candidates scope = is_known ≡ true → (n : ℕ) → has_number n candidates ≡ true →
+    has_number n scope ≡ true
 
 -- where it is known of candidates, they all must be found
 abbrev pub AreSure : Bool → (ℕ → Bool) → List ℕ → Type 0
@@ -33,7 +34,8 @@ AreSure is_known must candidates = is_known ≡ true → (n : ℕ) → has_numbe
 
 -- two sets have the same of the candidates that are in scope
 abbrev pub AreSameWithin : (ℕ → Bool) → (ℕ → Bool) → List ℕ → List ℕ → Type 0
-AreSameWithin one other scope candidates = (n : ℕ) → has_number n candidates ≡ true → has_number n scope ≡ true → one n ≡ other n
+AreSameWithin one other scope candidates = (n : ℕ) → has_number n candidates ≡ true → has_number n scope ≡ true →
+    one n ≡ other n
 
 -- A run under way: the numbers that were asked for are the first of those left open, the others are among the
 -- candidates that are left, all above what was passed, and there is room to count them.

@@ -8,7 +8,8 @@ use Rattle.search_plans.specs.Sets.{in_plan, is_in}
 
 -- the same where it is known whether the number is in scope
 abbrev pub is_in_when : Lists → Bool → Plan → ℕ → Bool
-is_in_when kept in_scope p n = in_plan in_scope (λ x. has_number n (kept.posting x)) (λ r. has_number n (kept.range r)) p
+is_in_when kept in_scope p n = in_plan in_scope (λ x. has_number n (kept.posting x))
+    (λ r. has_number n (kept.range r)) p
 
 -- whether a posting's list has a number
 abbrev pub is_listed : Lists → ℕ → Posting → Bool

@@ -18,7 +18,8 @@ use Rattle.ldap_eval.specs.declared.bound.BoundFilter.{BoundFilter}
 use Rattle.search_plans.specs.Bounds.{Bounds, is_decided}
 use Rattle.search_plans.specs.OctetRuns.{has_runs_for}
 
--- Two plans bound where a filter has the wanted value, whatever the entry's name; and where that is True, what may be holds the runs that the
+-- Two plans bound where a filter has the wanted value, whatever the entry's name; and where that is True, what may be
+-- holds the runs that the
 -- filter asks for.
 pub record IsSide (ix : List Kinds) (wanted : Bool) (f : BoundFilter) (must may : Plan) : Type 0 where
   pub bounds : (n : List RdnModel) → Bounds ix (λ e. bound_value n e f) (truth_of wanted) (is_decided ix f) must may
@@ -34,16 +35,19 @@ pub data EachSide (ix : List Kinds) (wanted : Bool) : List BoundFilter → List 
 abbrev pub range_between : Range → Range → Range
 range_between lower upper = record { type_id = lower.type_id; from = lower.from; upto = upper.upto }
 
--- Whether an entry has a value between the two ends, or may have several values of the type, where the type's values have an index in order: each
+-- Whether an entry has a value between the two ends, or may have several values of the type, where the type's values
+-- have an index in order: each
 -- entry with a value in each of the two ranges is such a one.
 abbrev pub is_between : List Kinds → Range → Range → List KeyedAttribute → Bool
-is_between ix lower upper e = (kinds_of ix lower.type_id).ordering && (has_in_range (range_between lower upper) e || has_several lower.type_id e)
+is_between ix lower upper e = (kinds_of ix lower.type_id).ordering
+    && (has_in_range (range_between lower upper) e || has_several lower.type_id e)
 
 -- a plan holds of each entry of which all of some plans hold
 abbrev pub IsImplied : List Plan → Plan → Type 0
 IsImplied ps p = (ix : List Kinds) (e : List KeyedAttribute) → list_all (holds ix e) ps ≡ true → holds ix e p ≡ true
 
--- What must is the intersection of the plans of each filter of a row; what may be holds of an entry just where all of them do.
+-- What must is the intersection of the plans of each filter of a row; what may be holds of an entry just where all of
+-- them do.
 pub record IsEvery (ix : List Kinds) (wanted : Bool) (fs : List BoundFilter) (must may : Plan) : Type 0 where
   pub musts : Vec Plan Global
   pub mays : List Plan

@@ -17,6 +17,7 @@ IsFirst holders own None least = least ≡ rank own
 IsFirst holders own (Some p) least = IsAbove holders p (rank own) least
 
 -- the first of those at so many places, and the one that wants more; and how it ranks
-pub record IsMostBelow (holders : List (Option Holder)) (own : Holder) (count : ℕ) (first : Option ℕ) (least : ℕ) : Type 0 where
+pub record IsMostBelow (holders : List (Option Holder)) (own : Holder) (count : ℕ) (first : Option ℕ) (least : ℕ) :
+    Type 0 where
   pub is_first : IsFirst holders own first least
   pub most : (q : ℕ) (h : Holder) → q < count → HoldsAt holders q h → rank h ≤ least

@@ -39,7 +39,8 @@ abbrev pub IsSlow : PooledSession → Duration → Type 0
 IsSlow g limit = min (as_nanos limit * min (g.taken / 1048576 + 1) 4294967295) max_nanos ≤ as_nanos g.waited
 
 -- What a read of an input gave: octets, nothing, or the end.
-abbrev pub HasHeard : Option (List ℕ) → Option (List ℕ) → ConversationValue → List ℕ → ConversationValue → ReadOutcome → Type 0
+abbrev pub HasHeard : Option (List ℕ) → Option (List ℕ) → ConversationValue → List ℕ → ConversationValue →
+    ReadOutcome → Type 0
 HasHeard input left v buffer w Octets = HearsSome input left v buffer w
 HasHeard input left v buffer w Nothing = (w ≡ v) × Consumes input left []
 HasHeard input left v buffer w (HeardEnds end) = (w ≡ v) × IsHeardEnd v end
@@ -61,7 +62,8 @@ pub record HasGivenUp (g : PooledSession) : Type 0 where
   pub refused : g.is_refused ≡ true
   pub next : due_next (talk g) ≡ DueUpdate
 
--- Why a session becomes this by a write: its client may take its time still; or a write has failed, which is tried only where there is something to
+-- Why a session becomes this by a write: its client may take its time still; or a write has failed, which is tried only
+-- where there is something to
 -- write, or an answer was too long.
 abbrev pub HasCause : PooledSession → PooledSession → Duration → Then → Type 0
 HasCause g h limit Listens = Unit {0}
@@ -90,7 +92,8 @@ began_while DueNothing began = began
 began_while DueUpdate began = None
 began_while DueOther began = None
 
--- the same, where it waits in a queue from now on: what waits inside of a message does so since then, or since it first did
+-- the same, where it waits in a queue from now on: what waits inside of a message does so since then, or since it first
+-- did
 abbrev pub began_in : Queue → Option Instant → Instant → Option Instant
 began_in Inside began now = Some (unwrap_or began now)
 began_in Silent began now = None
@@ -120,7 +123,8 @@ pub record HasWaited (g h : PooledSession) : Type 0 where
 
 -- how long its client has let octets wait: so far, and since it waits now
 abbrev pub Counts : PooledSession → Instant → PooledSession → Type 0
-Counts g now h = g.is_stuck ≡ true → as_nanos h.waited ≡ min (as_nanos g.waited + (instant_nanos now - instant_nanos g.since)) max_nanos
+Counts g now h = g.is_stuck ≡ true → as_nanos h.waited ≡
+    min (as_nanos g.waited + (instant_nanos now - instant_nanos g.since)) max_nanos
 
 -- and its next message is for whom it waits now
 pub record HasRoused (g h : PooledSession) (turn : Turn) : Type 0 where
@@ -148,13 +152,15 @@ abbrev pub WaitsFor : SessionValue → Queue → Type 0
 WaitsFor s queue = s.framed.fault ≡ None →
     ((queue ≡ Silent) × (s.framed.rest ≡ [])) ⊎ ((queue ≡ Inside) × (s.framed.rest ≡ [] → ⊥))
 
--- what is told to a session that waits for its turn: it is over, and its conversation is a new one; or its client sends no more, since then or before
+-- what is told to a session that waits for its turn: it is over, and its conversation is a new one; or its client sends
+-- no more, since then or before
 abbrev pub HasNoted : PooledSession → Notice → PooledSession → Type 0
 HasNoted g (Over end) h = (h.over ≡ Some (unwrap_or g.over end)) × (h.posted ≡ 0) × IsFresh (talk h)
 HasNoted g (SendsNoMore now) h = (h.closed ≡ Some (unwrap_or g.closed now)) × (h.over ≡ g.over) × (talk h ≡ talk g)
 
 -- the session at a place is told this, if one is there; so many octets are posted of it no more
-pub record NotesOne (g : PooledSession) (notice : Notice) (after : Option PooledSession) (told : Option ℕ) : Type 0 where
+pub record NotesOne (g : PooledSession) (notice : Notice) (after : Option PooledSession) (told : Option ℕ) :
+    Type 0 where
   pub pooled : PooledSession
   pub less : ℕ
   pub after_is : after ≡ Some pooled

@@ -1,4 +1,5 @@
--- Where the sessions of places are, and the lists of places beside that. Plain lists come in; whether they agree comes out.
+-- Where the sessions of places are, and the lists of places beside that. Plain lists come in; whether they agree comes
+-- out.
 use Rattle.std.specs.Prelude.{ℕ, ◌+◌, List, [], ◌∷◌, ◌++◌, Bool, true, false, cond, nat_eq, Option, None, Some}
 use Rattle.session_turns.specs.Turning.{Queues}
 use Rattle.session_turns.specs.declared.class_queues.Waiting.{Waiting}

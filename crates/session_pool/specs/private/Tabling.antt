@@ -22,7 +22,8 @@ use Rattle.session_pool.specs.declared.place_state.PlaceState.TheVariants.{New, 
 use Rattle.session_pool.specs.declared.place_state.Turn.{Turn}
 use Rattle.session_pool.specs.declared.place_state.Turn.TheVariants.{Seat, Update}
 
--- A table: where the session of each place is, the sessions that are at their places, which of them wait for their clients in which queue, and
+-- A table: where the session of each place is, the sessions that are at their places, which of them wait for their
+-- clients in which queue, and
 -- the places of those that wait for a seat, each in its class, or for a thread that updates, first in, first out.
 pub record Tabled : Type 0 where
   pub stands : List PlaceState
@@ -33,7 +34,14 @@ pub record Tabled : Type 0 where
 
 -- the value that a table stands for
 abbrev pub tabled : Places → Tabled
-tabled t = record { stands = t.stands.items; sessions = t.sessions.items; spots = t.book; ready = t.ready; updates = t.updates.items }
+tabled t = record {
+  stands = t.stands.items;
+  sessions = t.sessions.items;
+  spots = t.book;
+  ready = t.ready;
+  updates =
+      t.updates.items;
+}
 
 -- the session of a place stands so
 abbrev pub IsAt : Tabled → ℕ → PlaceState → Type 0
@@ -74,17 +82,24 @@ freed t p = record t { stands = slice_set t.stands p Free }
 pub record Parks (t : Tabled) (g : PooledSession) (queue : Queue) (u : Tabled) : Type 0 where
   pub away : IsAt t g.place Away
   pub put : HasPut t.spots g.place queue u.spots
-  pub after : u ≡ record t { stands = slice_set t.stands g.place Waits; sessions = slice_set t.sessions g.place (Some g); spots = u.spots }
+  pub after : u ≡ record t {
+    stands = slice_set t.stands g.place Waits;
+    sessions = slice_set t.sessions g.place
+        (Some g);
+    spots = u.spots;
+  }
 
 -- the session of a place is behind all others that wait for their turn: for a seat, in its class
 abbrev pub lined_up : Tabled → ℕ → Turn → Class → Tabled
 lined_up t p Seat class = record t { stands = slice_set t.stands p Ready; ready = turns_lined_up t.ready p class }
 lined_up t p Update class = record t { stands = slice_set t.stands p Updates; updates = t.updates ++ p ∷ [] }
 
--- a session that a thread had is at its place, where it waits for its turn behind all others: for a seat, in the class of what it owes now
+-- a session that a thread had is at its place, where it waits for its turn behind all others: for a seat, in the class
+-- of what it owes now
 pub record LinesUp (t : Tabled) (g : PooledSession) (turn : Turn) (now : ℕ) (u : Tabled) : Type 0 where
   pub away : IsAt t g.place Away
-  pub after : u ≡ lined_up (record t { sessions = slice_set t.sessions g.place (Some g) }) g.place turn (class_of g.debt now)
+  pub after : u ≡ lined_up (record t { sessions = slice_set t.sessions g.place (Some g) }) g.place turn
+      (class_of g.debt now)
 
 -- a thread has the session of a place
 abbrev pub without : Tabled → ℕ → Tabled
@@ -137,7 +152,8 @@ pub record IsLeaving (t : Tabled) (p : ℕ) (g : PooledSession) : Type 0 where
   pub home : IsHome t g p
   pub is_in : IsIn t.spots p Leaving turn
 
--- the session of a place that waited for its client waits for its turn behind all others: for a thread that updates, where its next message may
+-- the session of a place that waited for its client waits for its turn behind all others: for a thread that updates,
+-- where its next message may
 -- be an update; else for a seat, in the class of what it owes now
 pub record Rouses (t : Tabled) (p : ℕ) (turn : Turn) (now : ℕ) (u : Tabled) : Type 0 where
   pub before : PooledSession
@@ -146,7 +162,8 @@ pub record Rouses (t : Tabled) (p : ℕ) (turn : Turn) (now : ℕ) (u : Tabled) 
   pub home : IsHome t before p
   pub taken : HasTaken t.spots p queue u.spots
   pub roused : HasRoused before after turn
-  pub lined : u ≡ lined_up (record t { sessions = slice_set t.sessions p (Some after); spots = u.spots }) p turn (class_of after.debt now)
+  pub lined : u ≡ lined_up (record t { sessions = slice_set t.sessions p (Some after); spots = u.spots }) p turn
+      (class_of after.debt now)
 
 -- none waits in a queue, or one that has waited longest has not waited for so long
 pub record IsPatient (t : Tabled) (queue : Queue) (limit : Duration) (now : Instant) : Type 0 where

@@ -1,4 +1,5 @@
--- The queues of a table beside its places: each tells the places that stand in it. Places and queues come in; whether they agree comes out.
+-- The queues of a table beside its places: each tells the places that stand in it. Places and queues come in; whether
+-- they agree comes out.
 use Rattle.std.specs.Prelude.{◌≡◌, ℕ, ◌<◌, ◌≤◌, List, Bool, true, false, Option, Some}
 use Rattle.std.specs.BTreeMap.{get}
 use Rattle.std.specs.Ordering.{nat_cmp}

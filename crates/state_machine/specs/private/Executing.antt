@@ -18,7 +18,8 @@ abbrev pub replies_view : List Reply → List ReplyModel
 replies_view rs = map reply_view rs
 
 -- a directory and replies are those of the records, under a schema and a suffix
-pub record IsFold (s : SchemaModel) (suffix : List RdnModel) (records : List (LogEntry OpValue)) (d : Directory) (replies : List ReplyModel) : Type 0 where
+pub record IsFold (s : SchemaModel) (suffix : List RdnModel) (records : List (LogEntry OpValue)) (d : Directory)
+    (replies : List ReplyModel) : Type 0 where
   pub directory : d ≡ directory_of s suffix (ops_of records)
   pub replies_are : replies ≡ replies_of s suffix (ops_of records)
   pub below : NumbersBelow (length records + 1) d.entries

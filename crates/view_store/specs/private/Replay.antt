@@ -6,7 +6,8 @@ use Rattle.view_store.specs.Memory.{Event, MayLeave, LeftSince}
 
 -- one event more
 pub elapses : (base : List ℕ) (older : List Event) (e : Event)
-    → Elapses (length older) (length (e ∷ older)) (LeftSince base older) (LeftSince base (e ∷ older)) (MayLeave base (e ∷ older))
+    → Elapses (length older) (length (e ∷ older)) (LeftSince base older) (LeftSince base (e ∷ older))
+    (MayLeave base (e ∷ older))
 elapses base older e = record {
   later = omega arith;
   nothing_else = λ t c le left. ⊎_elim (λ now. inr now.1) (λ then. inl then) left;
@@ -14,5 +15,6 @@ elapses base older e = record {
 }
 
 -- no event more
-pub stays : (base : List ℕ) (events : List Event) → Elapses (length events) (length events) (LeftSince base events) (LeftSince base events) (MayLeave base events)
+pub stays : (base : List ℕ) (events : List Event) → Elapses (length events) (length events) (LeftSince base events)
+    (LeftSince base events) (MayLeave base events)
 stays base events = record { later = omega arith; nothing_else = λ t c le left. inl left; keeps = λ t c le left. left }

@@ -9,10 +9,12 @@ use Rattle.view_store.specs.Cluster.{cluster_octets}
 abbrev pub version_of : Bool → ℕ
 version_of journaled = if journaled then 3 else 2
 
--- the 31 octets behind the gate that a store writes: the version, the sequence, the view, the restarts, the cluster's number
+-- the 31 octets behind the gate that a store writes: the version, the sequence, the view, the restarts, the cluster's
+-- number
 abbrev pub body_octets : ℕ → ℕ → Pair → List ℕ
 body_octets sequence cluster pair =
-    version_of pair.journaled ∷ [] ++ to_be_bytes w64 sequence ++ to_be_bytes w64 pair.view ++ to_be_bytes w64 pair.restarts ++ cluster_octets cluster
+    version_of pair.journaled ∷ [] ++ to_be_bytes w64 sequence ++ to_be_bytes w64 pair.view ++ to_be_bytes w64
+    pair.restarts ++ cluster_octets cluster
 
 -- whether the gate at a place is open, whatever stands behind it
 abbrev pub is_gate_open : ℕ → List ℕ → Bool

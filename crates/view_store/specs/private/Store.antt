@@ -40,4 +40,8 @@ closing_of sequence gates = place_of sequence + (if gate_of sequence gates then 
 -- the gates after a store of the next sequence
 abbrev pub opened : ℕ → Gates → Gates
 opened sequence gates =
-    record { first = if is_first sequence then true else gates.first; second = if is_first sequence then gates.second else true }
+    record {
+      first = if is_first sequence then true else gates.first;
+      second = if is_first sequence then gates.second
+          else true;
+    }

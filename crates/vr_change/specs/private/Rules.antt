@@ -16,7 +16,8 @@ use Rattle.vr_change.specs.declared.left.Left.{Left}
 -- It is of a later view: the replica enters that, says so, and notes the sender (VRR 4.2, steps 1 and 2).
 abbrev pub start_entering_at : {P : Type 0} → Replica P → ℕ → ℕ → Outcome P
 start_entering_at r from v =
-    after_sends (to_all r.count r.index (StartViewChange v)) (rules.note_start r.count r.index (rules.enter r.count v (state r)) from)
+    after_sends (to_all r.count r.index (StartViewChange v)) (rules.note_start r.count r.index
+    (rules.enter r.count v (state r)) from)
 
 -- It isn't of a later view: the sender is noted, if the replica changes to that view (VRR 4.2, step 2).
 abbrev pub start_in_view_at : {P : Type 0} → Replica P → ℕ → ℕ → Outcome P
@@ -49,12 +50,14 @@ note_change_in_at r from v c = note_change_in r.count r.index (state r) from v c
 
 -- It isn't of a later view: it is noted, if the replica changes to that view (VRR 4.2, step 3).
 abbrev pub do_in_view_at : {P : Type 0} → Replica P → ℕ → ℕ → Change P → Outcome P
-do_in_view_at r from v c = cond (rules.is_changing_in (state r) v) (note_change_in r.count r.index (state r) from v c) (idle (state r))
+do_in_view_at r from v c = cond (rules.is_changing_in (state r) v) (note_change_in r.count r.index (state r) from v c)
+    (idle (state r))
 
 -- It is of a later view: the replica enters that, says so, and notes it if it is the primary (VRR 4.2, steps 1 and 3).
 abbrev pub do_entering_at : {P : Type 0} → Replica P → ℕ → ℕ → Change P → Outcome P
 do_entering_at r from v c =
-    after_sends (to_all r.count r.index (StartViewChange v)) (note_change_in r.count r.index (rules.enter r.count v (state r)) from v c)
+    after_sends (to_all r.count r.index (StartViewChange v)) (note_change_in r.count r.index
+    (rules.enter r.count v (state r)) from v c)
 
 -- With f + 1 DOVIEWCHANGEs, its own among them, the new view begins (VRR 4.2, step 3).
 abbrev pub try_begin_at : {P : Type 0} → Replica P → Outcome P
@@ -63,7 +66,8 @@ try_begin_at r = rules.try_begin r.count r.index (state r)
 -- That many are noted.
 abbrev pub may_begin_at : {P : Type 0} → Replica P → Bool
 may_begin_at r =
-    is_noted r.do_view_changes.items r.index && nat_lt (r.count / 2) (count (is_noted r.do_view_changes.items) (indices r.count))
+    is_noted r.do_view_changes.items r.index && nat_lt (r.count / 2) (count (is_noted r.do_view_changes.items)
+    (indices r.count))
 
 -- The best of the DOVIEWCHANGEs that are noted (VRR 4.2, step 3).
 abbrev pub best_at : {P : Type 0} → Replica P → Option (Change P)

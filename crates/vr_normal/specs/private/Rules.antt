@@ -20,7 +20,8 @@ prepare_at r e = rules.prepare r.count r.index (state r) e
 abbrev pub reply_again : {P : Type 0} → LogEntry P → ℕ → List Reply
 reply_again e p = record { client = e.client; request_number = e.request_number; op_number = p } ∷ []
 
--- The PREPARE is of the backup's view: it takes the record in, learns of the commit and answers (VRR 4.1, steps 4 and 7).
+-- The PREPARE is of the backup's view: it takes the record in, learns of the commit and answers (VRR 4.1, steps 4 and
+-- 7).
 abbrev pub taken_in_at : {P : Type 0} → Replica P → ℕ → ℕ → LogEntry P → ℕ → ℕ → Outcome P
 taken_in_at r from v e p x = rules.answer_prepare from v p (commit_to x (rules.take_in e p (state r)))
 
@@ -32,14 +33,17 @@ acknowledge_or_ask from v p held k =
 -- What so many records of each replica let the primary commit and answer (VRR 4.1, step 5).
 abbrev pub counted : {P : Type 0} → ℕ → ℕ → State P → List ℕ → Outcome P
 counted n i r acknowledged =
-    rules.commit_and_answer (rules.reached (n / 2) acknowledged (others n i) (others n i)) (record r { acknowledged = acknowledged })
+    rules.commit_and_answer (rules.reached (n / 2) acknowledged (others n i) (others n i))
+    (record r { acknowledged = acknowledged })
 
--- The PREPAREOK is of the primary's view: it is noted, and what f others have is committed and answered (VRR 4.1, step 5).
+-- The PREPAREOK is of the primary's view: it is noted, and what f others have is committed and answered (VRR 4.1, step
+-- 5).
 abbrev pub acknowledged_at : {P : Type 0} → Replica P → ℕ → ℕ → Outcome P
 acknowledged_at r from p =
     counted r.count r.index (state r) (with_acknowledgement r.acknowledged.items from p)
 
--- A GETSTATE, where not all of x committed records are held, from those on that are committed once it knows (VRR 4.1, step 7).
+-- A GETSTATE, where not all of x committed records are held, from those on that are committed once it knows (VRR 4.1,
+-- step 7).
 abbrev pub ask_if_short_at : {P : Type 0} → Replica P → ℕ → ℕ → ℕ → List (Send P)
 ask_if_short_at r from v x = (rules.ask_if_short from v x (commit_to x (state r))).sends
 

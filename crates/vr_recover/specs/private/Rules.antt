@@ -1,4 +1,5 @@
--- The rules of recovery and state transfer, and the whole step, at a replica with its count and index: what contracts that aren't public say of it.
+-- The rules of recovery and state transfer, and the whole step, at a replica with its count and index: what contracts
+-- that aren't public say of it.
 -- What public contracts say is in specs/Rules.
 use Rattle.std.specs.Prelude.{ℕ, ◌/◌, ◌==◌, ◌&&◌, Bool, cond, nat_lt, nat_le, Option, Some, None}
 use Rattle.vr_state.specs.declared.message.PeerMessage.{PeerMessage}
@@ -35,7 +36,8 @@ held_at r = cond (primary r.count r.view_number == r.index) (Some (snapshot (sta
 
 -- The response is of its recovery: it is kept, and ends the recovery where it can (VRR 4.3, step 3).
 abbrev pub kept_at : {P : Type 0} → Replica P → ℕ → Response P → Outcome P
-kept_at r from a = recovery.try_recovery r.count r.index (record (state r) { responses = recovery.keep from a r.responses.items })
+kept_at r from a = recovery.try_recovery r.count r.index
+    (record (state r) { responses = recovery.keep from a r.responses.items })
 
 -- The recovery ends where it can (VRR 4.3, step 3).
 abbrev pub try_recovery_at : {P : Type 0} → Replica P → Outcome P

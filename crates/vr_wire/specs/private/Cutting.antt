@@ -62,7 +62,8 @@ known_client home life number rest =
     cond (home == 0 && not (life == 0)) None (Some (record { home = home; life = life; number = number }, rest))
 
 unfoldable pub cut_client : List ℕ → Option (Client × List ℕ)
-cut_client o = then (cut_octet o) (λ h. then (cut_number h.1) (λ l. then (cut_number l.1) (λ n. known_client h.0 l.0 n.0 n.1)))
+cut_client o = then (cut_octet o)
+    (λ h. then (cut_number h.1) (λ l. then (cut_number l.1) (λ n. known_client h.0 l.0 n.0 n.1)))
 
 -- a payload: its length, and as many octets
 unfoldable pub cut_payload : List ℕ → Option (List ℕ × List ℕ)
@@ -151,7 +152,8 @@ cut_recovery o = then (only_number o) (λ x. Some (Recovery x))
 
 unfoldable pub cut_recovery_response : List ℕ → Option (PeerMessage (List ℕ))
 cut_recovery_response o =
-    then (cut_two o) (λ n. then (cut_perhaps n.1) (λ h. whole (RecoveryResponse n.0.1 (record { view_number = n.0.0; held = h.0 }), h.1)))
+    then (cut_two o) (λ n. then (cut_perhaps n.1)
+    (λ h. whole (RecoveryResponse n.0.1 (record { view_number = n.0.0; held = h.0 }), h.1)))
 
 -- the message of this kind
 abbrev pub cut_body : ℕ → List ℕ → Option (PeerMessage (List ℕ))

@@ -8,7 +8,8 @@ use Rattle.vr_wire.specs.Heading.{is_kind}
 -- the cluster, the kind and the sender that nine octets tell, if their version, cluster and kind can be a frame's
 abbrev pub heading_by : ℕ → List ℕ → Option (ℕ × (ℕ × ℕ))
 heading_by cluster o =
-    cond (slice_index o 0 == 2 && nat_lt 0 cluster && is_kind (slice_index o 7)) (Some (cluster, (slice_index o 7, slice_index o 8))) None
+    cond (slice_index o 0 == 2 && nat_lt 0 cluster && is_kind (slice_index o 7))
+    (Some (cluster, (slice_index o 7, slice_index o 8))) None
 
 -- the same, with the cluster that octets 1 to 6 tell
 abbrev pub heading_of : List ℕ → Option (ℕ × (ℕ × ℕ))

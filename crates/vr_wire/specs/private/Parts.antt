@@ -30,7 +30,12 @@ cut_place o = then (cut_short o) (λ p. then (cut_short p.1) (λ c. Some ((p.0, 
 abbrev pub portion_of : ℕ → ℕ → ℕ → ℕ → List ℕ → Option (Portion (List ℕ))
 portion_of sender message place count piece =
     cond (nat_lt place count && nat_lt 0 (length piece))
-    (Some (record { label = record { sender = sender; number = message; count = count }; place = place; piece = piece })) None
+    (Some (record {
+      label = record { sender = sender; number = message; count = count };
+      place = place;
+      piece =
+          piece;
+    })) None
 
 -- what follows the kind of a part
 unfoldable pub cut_portion : List ℕ → Option (Portion (List ℕ))

@@ -6,5 +6,6 @@ use Rattle.client_link.proofs.serving.serve_all.Goals as goal
 pub returns-clause-served : goal.returns-clause-served
 returns-clause-served g c =
     if_ok _ _
-    (λ after jobs k d below. each_gives _ _ (HasServedSome g.D.Directory.allows (config_view c.args.config.now)) c.args.directories.items after.items jobs (λ job r met. met) k d d below)
+    (λ after jobs k d below. each_gives _ _ (HasServedSome g.D.Directory.allows (config_view c.args.config.now))
+    c.args.directories.items after.items jobs (λ job r met. met) k d d below)
     c.map_vec.result c.map_vec.ensures.each

@@ -7,5 +7,6 @@ loop-init g c = none_served g.D.Directory.allows (config_view c.args.config.now)
 
 pub loop-preserved : goal.loop-preserved
 loop-preserved g c =
-    one_more_served g.D.Directory.allows (config_view c.args.config.now) c.args.directory c.loop.directory c.serve_one.new.directory _ c.loop.invariant
+    one_more_served g.D.Directory.allows (config_view c.args.config.now) c.args.directory c.loop.directory
+    c.serve_one.new.directory _ c.loop.invariant
     c.serve_one.ensures

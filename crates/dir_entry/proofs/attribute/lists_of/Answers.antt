@@ -13,7 +13,8 @@ pub returns-in_err-keys-clause-refused : goal.returns-in_err-keys-clause-refused
 returns-in_err-keys-clause-refused c = λ e.
     let p = err_from_is_err_and c.from_residual.result c.from_residual.ensures.1 in
     list_all-map (is_of_syntax c.args.schema.now c.args.type_id) (λ (v : Vec ℕ Global). v.items) c.args.values.items
-    ∙ ap (list_all (λ (v : Vec ℕ Global). is_of_syntax c.args.schema.now c.args.type_id v.items)) (sym c.as_slice.ensures.value)
+    ∙ ap (list_all (λ (v : Vec ℕ Global). is_of_syntax c.args.schema.now c.args.type_id v.items))
+    (sym c.as_slice.ensures.value)
     ∙ c.in_err-keys.ensures.refused (ap Err (sym p.2 ∙ same_error c.from_residual.result p.0 _ p.1 e))
 
 pub returns-clause-forms : goal.returns-clause-forms

@@ -8,4 +8,5 @@ use Rattle.dir_entry.proofs.repeats.has_equal.Given as goal
 abbrev pub invariant-loop-item : goal.invariant-loop-item
 invariant-loop-item g l =
     (has_twice (eq_by_cmp g.K.Ord.cmp) (take l.item-index l.list) ≡ false)
-    × ((q : g.row.K.Denot) → contains g.K.Ord.cmp l.seen q ≡ list_any (eq_by_cmp g.K.Ord.cmp q) (take l.item-index l.list))
+    × ((q : g.row.K.Denot) → contains g.K.Ord.cmp l.seen q ≡ list_any (eq_by_cmp g.K.Ord.cmp q)
+    (take l.item-index l.list))

@@ -6,4 +6,5 @@ use Rattle.dir_entry.proofs.Twice.{twice_of_map}
 use Rattle.dir_entry.proofs.repeats.has_twice.Goals as goal
 
 pub returns : goal.returns
-returns c = IfOk-weaker c.has_equal.result _ _ (λ b e. e ∙ twice_of_map _ bytes_eq (λ (o : Bor (List ℕ)). o.now) (λ x y. is_eq-slice_cmp x.now y.now) c.args.list.now) c.has_equal.ensures
+returns c = IfOk-weaker c.has_equal.result _ _ (λ b e. e ∙ twice_of_map _ bytes_eq (λ (o : Bor (List ℕ)). o.now)
+    (λ x y. is_eq-slice_cmp x.now y.now) c.args.list.now) c.has_equal.ensures

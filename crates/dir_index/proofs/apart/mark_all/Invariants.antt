@@ -7,7 +7,8 @@ abbrev pub invariant-loop-attribute : goal.invariant-loop-attribute
 invariant-loop-attribute l =
     record {
       more : (p : Posting) → has_posting l.marks.keys p ≡ false → has_posting l.initial.marks.keys p ≡ false;
-      all : (p : Posting) → has_posting l.marks.keys p ≡ false → lists_entry l.indexes l.rest p ≡ false → lists_entry l.indexes l.attributes p ≡ false;
+      all : (p : Posting) → has_posting l.marks.keys p ≡ false → lists_entry l.indexes l.rest p ≡ false →
+          lists_entry l.indexes l.attributes p ≡ false;
     }
 
 abbrev pub decreases-loop-attribute : goal.decreases-loop-attribute

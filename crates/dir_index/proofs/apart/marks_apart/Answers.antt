@@ -5,17 +5,23 @@ use Rattle.dir_index.proofs.apart.marks_apart.Goals as goal
 pub loop-earlier_first-preserved-then-eq : goal.loop-earlier_first-preserved-then-eq
 loop-earlier_first-preserved-then-eq c = λ p h k.
     c.loop-earlier_first.invariant p (c.in_ok-mark_pair.ensures.more p h)
-    (entry_pair c.args.indexes.now c.loop-earlier_first.earlier.now c.loop-earlier_first.later.now c.in-Some.earlier_rest.now c.in-Some-split_first.later_rest.now c.in-Some.earlier_first.now c.in-Some-split_first.later_first.now p
-    c.in-Some.ensures.cases.0 c.in-Some-split_first.ensures.cases.0 (c.in_ok-mark_pair.ensures.apart p c.in-Some.earlier_rest.now c.in-Some-split_first.later_rest.now h) k)
+    (entry_pair c.args.indexes.now c.loop-earlier_first.earlier.now c.loop-earlier_first.later.now
+    c.in-Some.earlier_rest.now c.in-Some-split_first.later_rest.now c.in-Some.earlier_first.now
+    c.in-Some-split_first.later_first.now p
+    c.in-Some.ensures.cases.0 c.in-Some-split_first.ensures.cases.0 (c.in_ok-mark_pair.ensures.apart p
+    c.in-Some.earlier_rest.now c.in-Some-split_first.later_rest.now h) k)
 
 pub loop-earlier_first-preserved-then-earlier-later :
     goal.loop-earlier_first-preserved-then-earlier-later
 loop-earlier_first-preserved-then-earlier-later c = λ p h k.
     c.loop-earlier_first.invariant p (c.in_ok-mark_whole.ensures.more p h)
-    (k ∙ sym (entry_rest c.args.indexes.now c.loop-earlier_first.later.now c.in-Some-split_first.later_rest.now c.in-Some-split_first.later_first.now p c.in-Some-split_first.ensures.cases.0
+    (k ∙ sym (entry_rest c.args.indexes.now c.loop-earlier_first.later.now c.in-Some-split_first.later_rest.now
+    c.in-Some-split_first.later_first.now p c.in-Some-split_first.ensures.cases.0
     (c.in_ok-mark_whole.ensures.whole p c.in-Some-split_first.later_rest.now h)))
 
 pub loop-earlier_first-preserved : goal.loop-earlier_first-preserved
 loop-earlier_first-preserved c = λ p h k.
     c.loop-earlier_first.invariant p (c.in_ok-mark_whole-2.ensures.more p h)
-    (entry_rest c.args.indexes.now c.loop-earlier_first.earlier.now c.in-Some.earlier_rest.now c.in-Some.earlier_first.now p c.in-Some.ensures.cases.0 (c.in_ok-mark_whole-2.ensures.whole p c.in-Some.earlier_rest.now h) ∙ k)
+    (entry_rest c.args.indexes.now c.loop-earlier_first.earlier.now c.in-Some.earlier_rest.now
+    c.in-Some.earlier_first.now p c.in-Some.ensures.cases.0 (c.in_ok-mark_whole-2.ensures.whole p
+    c.in-Some.earlier_rest.now h) ∙ k)

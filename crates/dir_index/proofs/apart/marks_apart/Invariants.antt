@@ -5,7 +5,8 @@ use Rattle.dir_index.proofs.apart.marks_apart.Given as goal
 
 abbrev pub invariant-loop-earlier_first : goal.invariant-loop-earlier_first
 invariant-loop-earlier_first l =
-    (p : Posting) → has_posting l.marks.keys p ≡ false → lists_entry l.indexes l.earlier p ≡ lists_entry l.indexes l.later p → lists_entry l.indexes l.before p ≡ lists_entry l.indexes l.after p
+    (p : Posting) → has_posting l.marks.keys p ≡ false → lists_entry l.indexes l.earlier p ≡ lists_entry l.indexes
+    l.later p → lists_entry l.indexes l.before p ≡ lists_entry l.indexes l.after p
 
 abbrev pub decreases-loop-earlier_first : goal.decreases-loop-earlier_first
 decreases-loop-earlier_first l = length l.earlier + length l.later

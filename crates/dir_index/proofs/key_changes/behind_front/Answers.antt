@@ -5,4 +5,7 @@ use Rattle.dir_index.proofs.key_changes.behind_front.Goals as goal
 pub loop-earlier_key-preserved : goal.loop-earlier_key-preserved
 loop-earlier_key-preserved c = λ f h.
     c.loop-earlier_key.invariant f
-    (any_front f c.loop-earlier_key.earlier.now c.loop-earlier_key.later.now c.in-Some.earlier_rest.now c.in-Some-split_first.later_rest.now c.in-Some.earlier_key.now c.in-Some-split_first.later_key.now c.in-Some.ensures.cases.0 c.in-Some-split_first.ensures.cases.0 (sym c.is_same.ensures ∙ c.if-not-is_same.false) h)
+    (any_front f c.loop-earlier_key.earlier.now c.loop-earlier_key.later.now c.in-Some.earlier_rest.now
+    c.in-Some-split_first.later_rest.now c.in-Some.earlier_key.now c.in-Some-split_first.later_key.now
+    c.in-Some.ensures.cases.0 c.in-Some-split_first.ensures.cases.0 (sym c.is_same.ensures
+    ∙ c.if-not-is_same.false) h)

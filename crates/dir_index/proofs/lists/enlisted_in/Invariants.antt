@@ -9,6 +9,9 @@ use Rattle.dir_index.proofs.lists.enlisted_in.Given as goal
 abbrev pub invariant-loop-key : goal.invariant-loop-key
 invariant-loop-key l =
     record {
-      has : (p : Posting) (n : ℕ) → ((nat_eq n l.number && (has_posting l.key-iterator p && not (has_posting l.others.keys p))) || is_in l.now (key_of p) n) ≡ ((nat_eq n l.number && (has_posting l.marks.keys p && not (has_posting l.others.keys p))) || is_in l.lists (key_of p) n);
+      has : (p : Posting) (n : ℕ) →
+          ((nat_eq n l.number && (has_posting l.key-iterator p && not (has_posting l.others.keys p))) || is_in l.now
+          (key_of p) n) ≡ ((nat_eq n l.number && (has_posting l.marks.keys p && not (has_posting l.others.keys p))) ||
+          is_in l.lists (key_of p) n);
       rising : AllRise l.lists → AllRise l.now;
     }

@@ -15,14 +15,19 @@ pub loop-key-preserved-then-not-contains : goal.loop-key-preserved-then-not-cont
 loop-key-preserved-then-not-contains c =
     let j : ListKey = c.in-Some.key.now in
     let others : List ListKey = c.args.others.now.keys in
-    let rest : c.loop-key.key-iterator ≡ j ∷ c.next.new.self = rest_more deref c.loop-key.key-iterator c.next.new.self c.next.result c.in-Some.key c.in-Some.is c.next.ensures.steps in
+    let rest : c.loop-key.key-iterator ≡ j ∷ c.next.new.self = rest_more deref c.loop-key.key-iterator c.next.new.self
+    c.next.result c.in-Some.key c.in-Some.is c.next.ensures.steps in
     let none : is_marked others j ≡ false = marked_at others j ∙ cc (c.contains.ensures, c.if-not-contains.true) in
     record {
       has = λ old p n.
           ap (λ i. i && not (nat_eq n c.args.number && (has_posting c.next.new.self p && not (has_posting others p))))
-          (struck_has c.loop-key.now c.in_ok-now-2.now j c.args.number c.in_ok-now-2.ensures.is (key_of p) (c.loop-key.invariant.rising old p) n)
-          ∙ strike_step (nat_eq n c.args.number) (is_same_list j (key_of p)) (has_posting c.next.new.self p) (has_posting others p) (is_in c.loop-key.now (key_of p) n) (λ e. ap (is_marked others) (sym (one_list j (key_of p) e)) ∙ none)
-          ∙ ap (λ (l : List ListKey). is_in c.loop-key.now (key_of p) n && not (nat_eq n c.args.number && (has_posting l p && not (has_posting others p)))) (sym rest)
+          (struck_has c.loop-key.now c.in_ok-now-2.now j c.args.number c.in_ok-now-2.ensures.is (key_of p)
+          (c.loop-key.invariant.rising old p) n)
+          ∙ strike_step (nat_eq n c.args.number) (is_same_list j (key_of p)) (has_posting c.next.new.self p)
+          (has_posting others p) (is_in c.loop-key.now (key_of p) n)
+          (λ e. ap (is_marked others) (sym (one_list j (key_of p) e)) ∙ none)
+          ∙ ap (λ (l : List ListKey). is_in c.loop-key.now (key_of p) n && not (nat_eq n c.args.number
+          && (has_posting l p && not (has_posting others p)))) (sym rest)
           ∙ c.loop-key.invariant.has old p n;
       rising = λ old. c.in_ok-now-2.ensures.rising (c.loop-key.invariant.rising old);
     }
@@ -31,13 +36,16 @@ pub loop-key-preserved : goal.loop-key-preserved
 loop-key-preserved c =
     let j : ListKey = c.in-Some.key.now in
     let others : List ListKey = c.args.others.now.keys in
-    let rest : c.loop-key.key-iterator ≡ j ∷ c.next.new.self = rest_more deref c.loop-key.key-iterator c.next.new.self c.next.result c.in-Some.key c.in-Some.is c.next.ensures.steps in
+    let rest : c.loop-key.key-iterator ≡ j ∷ c.next.new.self = rest_more deref c.loop-key.key-iterator c.next.new.self
+    c.next.result c.in-Some.key c.in-Some.is c.next.ensures.steps in
     let some : is_marked others j ≡ true = marked_at others j ∙ cc (c.contains.ensures, c.if-not-contains.false) in
     record {
       has = λ old p n.
           ap (λ b. is_in c.loop-key.now (key_of p) n && not b)
-          (skip_step (nat_eq n c.args.number) (is_same_list j (key_of p)) (has_posting c.next.new.self p) (has_posting others p) (λ e. ap (is_marked others) (sym (one_list j (key_of p) e)) ∙ some))
-          ∙ ap (λ (l : List ListKey). is_in c.loop-key.now (key_of p) n && not (nat_eq n c.args.number && (has_posting l p && not (has_posting others p)))) (sym rest)
+          (skip_step (nat_eq n c.args.number) (is_same_list j (key_of p)) (has_posting c.next.new.self p)
+          (has_posting others p) (λ e. ap (is_marked others) (sym (one_list j (key_of p) e)) ∙ some))
+          ∙ ap (λ (l : List ListKey). is_in c.loop-key.now (key_of p) n && not (nat_eq n c.args.number
+          && (has_posting l p && not (has_posting others p)))) (sym rest)
           ∙ c.loop-key.invariant.has old p n;
       rising = c.loop-key.invariant.rising;
     }

@@ -6,4 +6,5 @@ use Rattle.dir_index.specs.private.Marked.{has_posting, is_from_key}
 use Rattle.dir_index.proofs.marks.mark_keys.Given as goal
 
 abbrev pub invariant-loop-key : goal.invariant-loop-key
-invariant-loop-key l = (p : Posting) → has_posting l.marks.keys p ≡ (list_any (is_from_key l.kinds l.type_id p) (take l.key-index l.keys) || has_posting l.initial.marks.keys p)
+invariant-loop-key l = (p : Posting) → has_posting l.marks.keys p ≡ (list_any (is_from_key l.kinds l.type_id p)
+    (take l.key-index l.keys) || has_posting l.initial.marks.keys p)

@@ -7,6 +7,9 @@ use Rattle.dir_index.proofs.marks.marks_of.Goals as goal
 
 pub loop-attribute-preserved : goal.loop-attribute-preserved
 loop-attribute-preserved c = λ p.
-    entry_step c.args.indexes.now c.in-Some.attribute.now c.in-Some.others.now p (has_posting c.loop-attribute.marks.keys p) (has_posting c.mark_attribute.new.marks.keys p) (c.in_ok-mark_attribute.ensures p)
-    ∙ ap (λ (l : List KeyedAttribute). lists_entry c.args.indexes.now l p || has_posting c.loop-attribute.marks.keys p) (sym c.in-Some.ensures.cases.0)
+    entry_step c.args.indexes.now c.in-Some.attribute.now c.in-Some.others.now p
+    (has_posting c.loop-attribute.marks.keys p) (has_posting c.mark_attribute.new.marks.keys p)
+    (c.in_ok-mark_attribute.ensures p)
+    ∙ ap (λ (l : List KeyedAttribute). lists_entry c.args.indexes.now l p || has_posting c.loop-attribute.marks.keys
+    p) (sym c.in-Some.ensures.cases.0)
     ∙ c.loop-attribute.invariant p

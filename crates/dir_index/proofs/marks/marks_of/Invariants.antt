@@ -5,7 +5,8 @@ use Rattle.dir_index.specs.private.Marked.{has_posting, lists_entry}
 use Rattle.dir_index.proofs.marks.marks_of.Given as goal
 
 abbrev pub invariant-loop-attribute : goal.invariant-loop-attribute
-invariant-loop-attribute l = (p : Posting) → (lists_entry l.indexes l.rest p || has_posting l.marks.keys p) ≡ lists_entry l.indexes l.attributes p
+invariant-loop-attribute l = (p : Posting) → (lists_entry l.indexes l.rest p || has_posting l.marks.keys p) ≡
+    lists_entry l.indexes l.attributes p
 
 abbrev pub decreases-loop-attribute : goal.decreases-loop-attribute
 decreases-loop-attribute l = length l.rest

@@ -14,9 +14,13 @@ loop-key-preserved-in_ok-insert c = λ p.
     let j : ListKey = c.in-Some.key.now in
     let lists : Bool = lists_entry c.args.indexes.now c.args.attributes.now p in
     let within : Bool = has_posting c.loop-key.within.keys p in
-    let rest : c.loop-key.key-iterator ≡ j ∷ c.next.new.self = rest_more deref c.loop-key.key-iterator c.next.new.self c.next.result c.in-Some.key c.in-Some.is c.next.ensures.steps in
+    let rest : c.loop-key.key-iterator ≡ j ∷ c.next.new.self = rest_more deref c.loop-key.key-iterator c.next.new.self
+    c.next.result c.in-Some.key c.in-Some.is c.next.ensures.steps in
     ap (λ (b : Bool). (has_posting c.next.new.self p && lists) || b)
-    (marked_more c.loop-key.within.keys c.insert.new.self.keys c.in_ok-share.field-0 c.in_ok-insert.ensures.updates.0 (key_of p) ∙ ap (λ (k : ListKey). is_same_list k (key_of p) || within) c.in_ok-share.ensures)
-    ∙ keep_step (is_same_list j (key_of p)) (has_posting c.next.new.self p) lists within (λ e. sym (listed_by c.args.indexes.now c.args.attributes.now j p e) ∙ sym c.is_listed.ensures ∙ c.if-is_listed.true)
+    (marked_more c.loop-key.within.keys c.insert.new.self.keys c.in_ok-share.field-0 c.in_ok-insert.ensures.updates.0
+    (key_of p) ∙ ap (λ (k : ListKey). is_same_list k (key_of p) || within) c.in_ok-share.ensures)
+    ∙ keep_step (is_same_list j (key_of p)) (has_posting c.next.new.self p) lists within
+    (λ e. sym (listed_by c.args.indexes.now c.args.attributes.now j p e) ∙ sym c.is_listed.ensures
+    ∙ c.if-is_listed.true)
     ∙ ap (λ (l : List ListKey). (has_posting l p && lists) || within) (sym rest)
     ∙ c.loop-key.invariant p

@@ -17,7 +17,10 @@ returns c = λ n.
     let s : ListKey = key_at c.start_of-start.result in
     c.in_ok-push_rest.ensures n
     ∙ ap (λ b. b || has_in_lists r n (entries_after (list_order s) c.args.lists.now)) (c.in_ok-push_first.ensures n)
-    ∙ or_assoc (has_number n c.args.into.now.items) (in_range r s.octets && has_number n (list_at c.args.lists.now s)) (has_in_lists r n (entries_after (list_order s) c.args.lists.now))
+    ∙ or_assoc (has_number n c.args.into.now.items) (in_range r s.octets && has_number n (list_at c.args.lists.now s))
+    (has_in_lists r n (entries_after (list_order s) c.args.lists.now))
     ∙ ap (λ b. has_number n c.args.into.now.items || b)
-    (subst (λ (k : ListKey). ((in_range r k.octets && has_number n (list_at c.args.lists.now k)) || has_in_lists r n (entries_after (list_order k) c.args.lists.now)) ≡ has_in_lists r n c.args.lists.now) (sym c.start_of-start.ensures)
+    (subst (λ (k : ListKey). ((in_range r k.octets && has_number n (list_at c.args.lists.now k)) || has_in_lists r n
+    (entries_after (list_order k) c.args.lists.now)) ≡ has_in_lists r n c.args.lists.now)
+    (sym c.start_of-start.ensures)
     (from_start r n c.args.lists.now c.rises.ensures))

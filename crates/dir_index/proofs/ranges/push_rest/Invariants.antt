@@ -13,7 +13,9 @@ invariant-loop-key l =
     record {
       rising : Rises list_order l.walk;
       behind : IsAhead list_order (key_at l.start) l.walk;
-      has : (n : ℕ) → (has_number n l.into.items || has_in_lists l.range n l.walk) ≡ (has_number n l.fn.into.items || has_in_lists l.range n (entries_after (list_order (key_at l.start)) l.lists));
+      has : (n : ℕ) → (has_number n l.into.items || has_in_lists l.range n l.walk) ≡
+          (has_number n l.fn.into.items || has_in_lists l.range n (entries_after (list_order (key_at l.start))
+          l.lists));
     }
 
 abbrev pub decreases-loop-key : goal.decreases-loop-key

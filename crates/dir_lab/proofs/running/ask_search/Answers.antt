@@ -16,10 +16,14 @@ returns-in_ok-push-clause-next c = record {
   world = refl;
   records = refl;
   shown = shown_one c.args.run.now.shown.items c.push.new.self.items c.in_ok-answer.answer
-      (found (arc_value c.args.lab.now.schema) c.args.lab.now.suffix (records_by c.args.run.now.kept.items c.args.index) c.args.named (search_view c.args.request.now) ((world c.args.run.now.cluster).replicas c.args.index))
+      (found (arc_value c.args.lab.now.schema) c.args.lab.now.suffix (records_by c.args.run.now.kept.items
+      c.args.index) c.args.named (search_view c.args.request.now) ((world c.args.run.now.cluster).replicas
+      c.args.index))
       (nat_lt c.args.index c.args.lab.now.count) c.in_ok-push.ensures.items
       (c.in_ok-answer.ensures
-      ∙ ap₂ (λ (r : List (LogEntry OpValue)) (o : Option (State OpValue)). found (arc_value c.args.lab.now.schema) c.args.lab.now.suffix r c.args.named (search_view c.args.request.now) o)
-      (records_here c.args.run.now.kept.items c.args.index c.index.result.now c.index.ensures (omega (arith, c.if-index-lab.true, c.requires.kept))) c.replica-replica.ensures)
+      ∙ ap₂ (λ (r : List (LogEntry OpValue)) (o : Option (State OpValue)). found (arc_value c.args.lab.now.schema)
+      c.args.lab.now.suffix r c.args.named (search_view c.args.request.now) o)
+      (records_here c.args.run.now.kept.items c.args.index c.index.result.now c.index.ensures
+      (omega (arith, c.if-index-lab.true, c.requires.kept))) c.replica-replica.ensures)
       (lt-ltb c.args.index c.args.lab.now.count c.if-index-lab.true);
 }

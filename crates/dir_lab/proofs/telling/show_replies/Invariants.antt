@@ -8,4 +8,5 @@ use Rattle.dir_lab.proofs.telling.show_replies.Given as goal
 -- so far those of a beginning are shown
 abbrev pub invariant-loop-by : goal.invariant-loop-by
 invariant-loop-by l =
-    map shown_view l.shown.items ≡ map shown_view l.initial.shown.items ++ map (told (arc_value l.lab.schema) l.lab.suffix (records_by l.kept)) (take l.by-index l.replies)
+    map shown_view l.shown.items ≡ map shown_view l.initial.shown.items ++ map (told (arc_value l.lab.schema)
+    l.lab.suffix (records_by l.kept)) (take l.by-index l.replies)

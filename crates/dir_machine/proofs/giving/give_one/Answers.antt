@@ -16,10 +16,14 @@ use Rattle.dir_machine.proofs.giving.give_one.Goals as goal
 
 pub returns-in_ok-push-in-Ok : goal.returns-in_ok-push-in-Ok
 returns-in_ok-push-in-Ok c =
-    subst (λ (p : Process). IsGiven c.args.replica (c.args.event ∷ []) p (Up c.handle.new.self c.in-Up.fates) (reply.Handled c.args.replica c.push.new.self c.in-Ok.handled.behind)) (sym c.in-Up.is) (
+    subst (λ (p : Process). IsGiven c.args.replica (c.args.event ∷ []) p (Up c.handle.new.self c.in-Up.fates)
+    (reply.Handled c.args.replica c.push.new.self c.in-Ok.handled.behind)) (sym c.in-Up.is) (
       refl,
-      one_took c.args.event c.in-Up.node c.handle.new.self c.in-Ok.handled.outputs c.in-Ok.handled.behind c.push.new.self.items
-          (c.in_ok-push-in-Ok.ensures.items ∙ ap (λ (l : List (Result (Outputs OpValue) AllocError)). l ++ Ok c.in-Ok.handled.outputs ∷ []) c.new-given.ensures.items) c.in-Ok.ensures.step c.in-Ok.ensures.executed c.in-Ok.ensures.kept c.in-Ok.ensures.logged
+      one_took c.args.event c.in-Up.node c.handle.new.self c.in-Ok.handled.outputs c.in-Ok.handled.behind
+          c.push.new.self.items
+          (c.in_ok-push-in-Ok.ensures.items ∙ ap (λ (l : List (Result (Outputs OpValue) AllocError)).
+          l ++ Ok c.in-Ok.handled.outputs ∷ []) c.new-given.ensures.items) c.in-Ok.ensures.step
+          c.in-Ok.ensures.executed c.in-Ok.ensures.kept c.in-Ok.ensures.logged
           c.in-Ok.ensures.running c.in-Ok.ensures.same c.in-Ok.ensures.any_moment c.in-Ok.ensures.placed,
     )
 
@@ -29,7 +33,8 @@ returns-in-Err c =
     let old = c.in-Up.node in
     IfOk-weaker c.stopped.result _ _ (λ x is.
     subst (λ (p : Process). IsGiven c.args.replica (c.args.event ∷ []) p x.0 x.1) (sym c.in-Up.is)
-    (stopped_given {T = Handled} c.args.replica (c.args.event ∷ []) old c.handle.new.self c.in-Up.fates (step old.count old.index old.replica c.args.event).state.view_number c.in-Err.error x.0 x.1 is (record {
+    (stopped_given {T = Handled} c.args.replica (c.args.event ∷ []) old c.handle.new.self c.in-Up.fates
+    (step old.count old.index old.replica c.args.event).state.view_number c.in-Err.error x.0 x.1 is (record {
       other = other;
       same = c.in-Err.ensures.same;
       any = c.in-Err.ensures.any_moment;

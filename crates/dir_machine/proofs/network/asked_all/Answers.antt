@@ -8,11 +8,20 @@ use Rattle.dir_machine.proofs.network.asked_all.Goals as goal
 
 pub loop-one-preserved : goal.loop-one-preserved
 loop-one-preserved c =
-    subst (λ (l : List (Event OpValue)). AskedSoFar c.args.shown.now c.args.replica c.args.given.items c.next.new.self.rest.items l) (sym c.in_ok-push-in-Some-2.ensures.items)
-    (one_asked c.args.shown.now c.args.replica c.args.given.items c.next.new.self.rest.items c.in-Some.one c.loop-one.events.items c.in-Some-2.event
-    (subst (λ (l : List Given). AskedSoFar c.args.shown.now c.args.replica c.args.given.items l c.loop-one.events.items) c.in-Some.ensures.steps.0 c.loop-one.invariant) (subst (λ (o : Option (Event OpValue)). IsAskedOr c.args.shown.now c.args.replica c.in-Some.one o) c.in-Some-2.is c.in_ok-event.ensures))
+    subst (λ (l : List (Event OpValue)). AskedSoFar c.args.shown.now c.args.replica c.args.given.items
+    c.next.new.self.rest.items l) (sym c.in_ok-push-in-Some-2.ensures.items)
+    (one_asked c.args.shown.now c.args.replica c.args.given.items c.next.new.self.rest.items c.in-Some.one
+    c.loop-one.events.items c.in-Some-2.event
+    (subst (λ (l : List Given). AskedSoFar c.args.shown.now c.args.replica c.args.given.items l
+    c.loop-one.events.items) c.in-Some.ensures.steps.0 c.loop-one.invariant)
+    (subst (λ (o : Option (Event OpValue)). IsAskedOr c.args.shown.now c.args.replica c.in-Some.one o)
+    c.in-Some-2.is c.in_ok-event.ensures))
 
 pub returns-in-None-2 : goal.returns-in-None-2
 returns-in-None-2 c =
-    one_is_missing c.args.shown.now c.args.replica c.args.given.items c.next.new.self.rest.items c.in-Some.one c.loop-one.events.items
-    (subst (λ (l : List Given). AskedSoFar c.args.shown.now c.args.replica c.args.given.items l c.loop-one.events.items) c.in-Some.ensures.steps.0 c.loop-one.invariant) (subst (λ (o : Option (Event OpValue)). IsAskedOr c.args.shown.now c.args.replica c.in-Some.one o) c.in-None-2.is c.in_ok-event.ensures)
+    one_is_missing c.args.shown.now c.args.replica c.args.given.items c.next.new.self.rest.items c.in-Some.one
+    c.loop-one.events.items
+    (subst (λ (l : List Given). AskedSoFar c.args.shown.now c.args.replica c.args.given.items l
+    c.loop-one.events.items) c.in-Some.ensures.steps.0 c.loop-one.invariant)
+    (subst (λ (o : Option (Event OpValue)). IsAskedOr c.args.shown.now c.args.replica c.in-Some.one o)
+    c.in-None-2.is c.in_ok-event.ensures)

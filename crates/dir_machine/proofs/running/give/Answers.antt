@@ -13,25 +13,33 @@ use Rattle.dir_machine.proofs.running.give.Goals as goal
 
 pub returns-then-machine-replica : goal.returns-then-machine-replica
 returns-then-machine-replica c =
-    on_ok c.show_nothing.result (λ shown. away_on c.args.machine.now c.args.run.now c.show_nothing.new.run c.args.replica c.if-machine-replica.true shown (kinds.Give c.args.replica c.args.given) (λ w. (refl, inl (inl c.if-machine-replica.true)))) c.show_nothing.ensures
+    on_ok c.show_nothing.result (λ shown. away_on c.args.machine.now c.args.run.now c.show_nothing.new.run
+    c.args.replica c.if-machine-replica.true shown (kinds.Give c.args.replica c.args.given)
+    (λ w. (refl, inl (inl c.if-machine-replica.true)))) c.show_nothing.ensures
 
 pub returns-in-None : goal.returns-in-None
 returns-in-None c =
-    on_ok c.show_nothing-in-None.result (λ shown. missing_on c.args.machine.now c.args.run.now c.show_nothing-in-None.new.run c.args.replica c.args.given
+    on_ok c.show_nothing-in-None.result (λ shown. missing_on c.args.machine.now c.args.run.now
+    c.show_nothing-in-None.new.run c.args.replica c.args.given
     (subst (λ (l : List MachineReply). IsMissing l c.args.replica c.args.given) c.as_slice.ensures.value
-    (subst (λ (o : Option (Event OpValue)). IsAskedOr c.as_slice.result.now c.args.replica c.args.given o) c.in-None.is c.in_ok-asked.ensures)) shown) c.show_nothing-in-None.ensures
+    (subst (λ (o : Option (Event OpValue)). IsAskedOr c.as_slice.result.now c.args.replica c.args.given o)
+    c.in-None.is c.in_ok-asked.ensures)) shown) c.show_nothing-in-None.ensures
 
 pub returns-in_ok-push-in-Some : goal.returns-in_ok-push-in-Some
-returns-in_ok-push-in-Some c = give_on c.laws.ensures c.args.machine.now c.args.run.now _ c.args.replica c.args.given c.in-Some.event c.replace-before.result c.in_ok-after-in-Some.after c.in_ok-after-in-Some.reply
+returns-in_ok-push-in-Some c = give_on c.laws.ensures c.args.machine.now c.args.run.now _ c.args.replica c.args.given
+    c.in-Some.event c.replace-before.result c.in_ok-after-in-Some.after c.in_ok-after-in-Some.reply
     (record {
       hole = c.replace-before.new.dest;
       counted = c.requires;
       within = c.if-machine-replica.false;
-      was = slice_get-get_or c.args.run.now.processes.items c.args.replica c.index_mut.result.now (omega (arith, c.requires, c.if-machine-replica.false))
-          ∙ ap (λ (p : Process). Some p) (sym c.index_mut.ensures.value) ∙ ap (λ (p : Process). Some p) (sym c.replace-before.ensures.value);
+      was = slice_get-get_or c.args.run.now.processes.items c.args.replica c.index_mut.result.now
+          (omega (arith, c.requires, c.if-machine-replica.false))
+          ∙ ap (λ (p : Process). Some p) (sym c.index_mut.ensures.value) ∙ ap (λ (p : Process). Some p)
+          (sym c.replace-before.ensures.value);
       processes = refl;
       shown = c.in_ok-push-in-Some.ensures.items;
     })
     (subst (λ (l : List MachineReply). IsAsked l c.args.replica c.args.given c.in-Some.event) c.as_slice.ensures.value
-    (subst (λ (o : Option (Event OpValue)). IsAskedOr c.as_slice.result.now c.args.replica c.args.given o) c.in-Some.is c.in_ok-asked.ensures))
+    (subst (λ (o : Option (Event OpValue)). IsAskedOr c.as_slice.result.now c.args.replica c.args.given o)
+    c.in-Some.is c.in_ok-asked.ensures))
     c.in_ok-after-in-Some.ensures

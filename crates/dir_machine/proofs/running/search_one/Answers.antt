@@ -8,10 +8,14 @@ use Rattle.dir_machine.proofs.running.search_one.Goals as goal
 
 pub returns-then-machine-replica : goal.returns-then-machine-replica
 returns-then-machine-replica c =
-    on_ok c.show_nothing.result (λ shown. away_on c.args.machine.now c.args.run.now c.show_nothing.new.run c.args.replica c.if-machine-replica.true shown (kinds.Search c.args.replica c.args.named c.args.request) (λ w. (refl, inl c.if-machine-replica.true))) c.show_nothing.ensures
+    on_ok c.show_nothing.result (λ shown. away_on c.args.machine.now c.args.run.now c.show_nothing.new.run
+    c.args.replica c.if-machine-replica.true shown (kinds.Search c.args.replica c.args.named c.args.request)
+    (λ w. (refl, inl c.if-machine-replica.true))) c.show_nothing.ensures
 
 pub returns : goal.returns
-returns c = search_on c.args.machine.now c.args.run.now _ c.args.replica c.args.named c.args.request c.index.result.now c.search-reply.result refl c.in_ok-push.ensures.items
-    (slice_get-get_or c.args.run.now.processes.items c.args.replica c.index.result.now (omega (arith, c.requires, c.if-machine-replica.false))
+returns c = search_on c.args.machine.now c.args.run.now _ c.args.replica c.args.named c.args.request
+    c.index.result.now c.search-reply.result refl c.in_ok-push.ensures.items
+    (slice_get-get_or c.args.run.now.processes.items c.args.replica c.index.result.now
+    (omega (arith, c.requires, c.if-machine-replica.false))
     ∙ ap (λ (p : Process). Some p) (sym c.index.ensures))
     c.search-reply.ensures

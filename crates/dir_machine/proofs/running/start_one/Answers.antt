@@ -8,16 +8,21 @@ use Rattle.dir_machine.proofs.running.start_one.Goals as goal
 
 pub returns-then-machine-replica : goal.returns-then-machine-replica
 returns-then-machine-replica c =
-    on_ok c.show_nothing.result (λ shown. away_on c.args.machine.now c.args.run.now c.show_nothing.new.run c.args.replica c.if-machine-replica.true shown (kinds.Start c.args.replica c.args.faults c.args.fates) (λ w. (refl, inl c.if-machine-replica.true))) c.show_nothing.ensures
+    on_ok c.show_nothing.result (λ shown. away_on c.args.machine.now c.args.run.now c.show_nothing.new.run
+    c.args.replica c.if-machine-replica.true shown (kinds.Start c.args.replica c.args.faults c.args.fates)
+    (λ w. (refl, inl c.if-machine-replica.true))) c.show_nothing.ensures
 
 pub returns : goal.returns
-returns c = start_on c.laws.ensures c.args.machine.now c.args.run.now _ c.args.replica c.args.faults c.args.fates c.replace-before.result c.in_ok-after.after c.in_ok-after.reply
+returns c = start_on c.laws.ensures c.args.machine.now c.args.run.now _ c.args.replica c.args.faults c.args.fates
+    c.replace-before.result c.in_ok-after.after c.in_ok-after.reply
     (record {
       hole = c.replace-before.new.dest;
       counted = c.requires;
       within = c.if-machine-replica.false;
-      was = slice_get-get_or c.args.run.now.processes.items c.args.replica c.index_mut.result.now (omega (arith, c.requires, c.if-machine-replica.false))
-          ∙ ap (λ (p : Process). Some p) (sym c.index_mut.ensures.value) ∙ ap (λ (p : Process). Some p) (sym c.replace-before.ensures.value);
+      was = slice_get-get_or c.args.run.now.processes.items c.args.replica c.index_mut.result.now
+          (omega (arith, c.requires, c.if-machine-replica.false))
+          ∙ ap (λ (p : Process). Some p) (sym c.index_mut.ensures.value) ∙ ap (λ (p : Process). Some p)
+          (sym c.replace-before.ensures.value);
       processes = refl;
       shown = c.in_ok-push.ensures.items;
     })

@@ -11,5 +11,7 @@ pub returns-in-Ok-clause-told : goal.returns-in-Ok-clause-told
 returns-in-Ok-clause-told g c =
     let o = c.args.owner in
     let old = recorded (g.J.Device.seen c.clear_log.new.journal.device) in
-    subst (λ (l : List (List ℕ)). IsMemory (head_of o.cluster o.index o.count 1) (first o.count) l) (sym c.in-Ok.ensures.strings)
-    (first_told o old c.in_ok-batch.batch (c.in_ok-clear_log.ensures.strings ∙ ap recorded c.read_first.ensures.seen ∙ c.in_ok-reader.ensures.empty) (put_first (first_notes o) c.in_ok-batch.batch c.in_ok-batch.ensures.notes))
+    subst (λ (l : List (List ℕ)). IsMemory (head_of o.cluster o.index o.count 1) (first o.count) l)
+    (sym c.in-Ok.ensures.strings)
+    (first_told o old c.in_ok-batch.batch (c.in_ok-clear_log.ensures.strings ∙ ap recorded c.read_first.ensures.seen
+    ∙ c.in_ok-reader.ensures.empty) (put_first (first_notes o) c.in_ok-batch.batch c.in_ok-batch.ensures.notes))

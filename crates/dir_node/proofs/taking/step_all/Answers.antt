@@ -12,7 +12,9 @@ pub returns-clause-taken : goal.returns-clause-taken
 returns-clause-taken c =
     let r = c.args.replica.now in
     let q = c.loop-event.replica in
-    let nothing : c.loop-event.event-iterator.rest.items ≡ [] = nil_from_length c.loop-event.event-iterator.rest.items (omega (arith, c.in-None.ensures.steps.0)) in
-    subst (λ (l : List (Result (Outputs OpValue) AllocError)). MakesSteps r.count r.index (state r) c.args.events.items l (state q)) (append-nil c.loop-event.all.items)
+    let nothing : c.loop-event.event-iterator.rest.items ≡ [] = nil_from_length c.loop-event.event-iterator.rest.items
+    (omega (arith, c.in-None.ensures.steps.0)) in
+    subst (λ (l : List (Result (Outputs OpValue) AllocError)). MakesSteps r.count r.index (state r)
+    c.args.events.items l (state q)) (append-nil c.loop-event.all.items)
     (c.loop-event.invariant.3 [] (state q)
     (subst (λ (l : List (Event OpValue)). MakesSteps r.count r.index (state q) l [] (state q)) (sym nothing) refl))

@@ -8,9 +8,11 @@ use Rattle.dir_search.proofs.searching.search.Goals as goal
 pub returns-in-SubordinateSubtree-clause-few : goal.returns-in-SubordinateSubtree-clause-few
 returns-in-SubordinateSubtree-clause-few c =
     let q = search_view c.args.request.now in
-    no_scope c.args.store.now q (name_of_text c.args.store.now.directory.schema q.base) c.refused_with.result.tests (ap is_subordinate c.in-SubordinateSubtree.is)
+    no_scope c.args.store.now q (name_of_text c.args.store.now.directory.schema q.base) c.refused_with.result.tests
+    (ap is_subordinate c.in-SubordinateSubtree.is)
 
 pub returns-in-SubordinateSubtree-clause-counted : goal.returns-in-SubordinateSubtree-clause-counted
 returns-in-SubordinateSubtree-clause-counted c =
     let q = search_view c.args.request.now in
-    no_scope_counted c.args.store.now q (name_of_text c.args.store.now.directory.schema q.base) c.refused_with.result.tests (ap is_subordinate c.in-SubordinateSubtree.is)
+    no_scope_counted c.args.store.now q (name_of_text c.args.store.now.directory.schema q.base)
+    c.refused_with.result.tests (ap is_subordinate c.in-SubordinateSubtree.is)

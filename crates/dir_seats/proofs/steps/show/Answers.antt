@@ -10,4 +10,5 @@ publish_as-requires g c next is =
     sees _ _ now next (subst (λ v. IsBeginning now v) (sym is) c.requires)
 
 pub returns : goal.returns
-returns g c = both c.publish_as.result.1 c.publish_as.ensures.values c.publish_as.ensures.rule (λ v s. (v.0, v.1, s.1)) (λ v s. (v.0, v.1, s))
+returns g c = both c.publish_as.result.1 c.publish_as.ensures.values c.publish_as.ensures.rule
+    (λ v s. (v.0, v.1, s.1)) (λ v s. (v.0, v.1, s))

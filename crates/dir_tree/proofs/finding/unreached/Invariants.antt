@@ -5,6 +5,7 @@ use Rattle.dir_tree.proofs.finding.unreached.Given as goal
 
 abbrev pub invariant-loop-rdn : goal.invariant-loop-rdn
 invariant-loop-rdn l = record {
-  same : unreached (step_at l.levels) (rdns (drop l.rdn-index l.path)) l.at ≡ unreached (step_at l.levels) (rdns l.path) l.fn.from;
+  same : unreached (step_at l.levels) (rdns (drop l.rdn-index l.path)) l.at ≡ unreached (step_at l.levels)
+      (rdns l.path) l.fn.from;
   count : l.left + l.rdn-index ≡ length l.path;
 }

@@ -5,4 +5,5 @@ use Rattle.dir_tree.proofs.LevelFacts.{if_ok, below_put}
 use Rattle.dir_tree.proofs.levels.with_below.Goals as goal
 
 pub returns : goal.returns
-returns c = if_ok _ _ c.with.result (λ m e a. ap (λ (l : List (ℕ × Below)). below_at l a) e ∙ below_put c.args.levels.now c.args.number c.args.below a) c.with.ensures
+returns c = if_ok _ _ c.with.result (λ m e a. ap (λ (l : List (ℕ × Below)). below_at l a) e
+    ∙ below_put c.args.levels.now c.args.number c.args.below a) c.with.ensures

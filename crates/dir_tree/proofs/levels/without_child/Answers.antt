@@ -7,11 +7,14 @@ use Rattle.dir_tree.proofs.levels.without_child.Goals as goal
 pub returns-clause-steps : goal.returns-clause-steps
 returns-clause-steps c =
     if_ok _ _ c.with_below.result
-    (λ m put. child_out_steps (below_at c.args.levels.now) (below_at m) c.args.above _ put c.in_ok-below.below.names (ap (λ (b : Below). b.names) c.in_ok-below.ensures) c.args.rdn.now c.new.result c.new.ensures c.rises.ensures c.in_ok-below-2.ensures)
+    (λ m put. child_out_steps (below_at c.args.levels.now) (below_at m) c.args.above _ put c.in_ok-below.below.names
+    (ap (λ (b : Below). b.names) c.in_ok-below.ensures) c.args.rdn.now c.new.result c.new.ensures c.rises.ensures
+    c.in_ok-below-2.ensures)
     c.with_below.ensures
 
 pub returns-clause-children : goal.returns-clause-children
 returns-clause-children c =
     if_ok _ _ c.with_below.result
-    (λ m put. child_fewer (below_at c.args.levels.now) (below_at m) c.args.above _ put c.in_ok-below.below.children (ap (λ (b : Below). b.children) c.in_ok-below.ensures) c.args.number c.rises-2.ensures c.in_ok-below-3.ensures)
+    (λ m put. child_fewer (below_at c.args.levels.now) (below_at m) c.args.above _ put c.in_ok-below.below.children
+    (ap (λ (b : Below). b.children) c.in_ok-below.ensures) c.args.number c.rises-2.ensures c.in_ok-below-3.ensures)
     c.with_below.ensures

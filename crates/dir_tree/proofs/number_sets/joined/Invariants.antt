@@ -3,7 +3,8 @@ use Rattle.dir_entry.specs.shared_map.Sets.{has_number}
 use Rattle.dir_tree.proofs.number_sets.joined.Given as goal
 
 abbrev pub invariant-loop-number : goal.invariant-loop-number
-invariant-loop-number l = (j : ℕ) → (has_number j l.rest || has_number j l.changed) ≡ (has_number j l.more || has_number j l.set)
+invariant-loop-number l = (j : ℕ) → (has_number j l.rest || has_number j l.changed) ≡
+    (has_number j l.more || has_number j l.set)
 
 abbrev pub decreases-loop-number : goal.decreases-loop-number
 decreases-loop-number l = length l.rest

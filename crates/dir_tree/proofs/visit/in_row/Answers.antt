@@ -10,8 +10,10 @@ use Rattle.dir_tree.proofs.visit.in_row.Goals as goal
 
 pub returns-else-number-row-2 : goal.returns-else-number-row-2
 returns-else-number-row-2 c es h =
-    subst (λ (o : Option Row). HasRow o es) c.in-Some.is h (c.args.number - c.in-Some.row.from) c.index-found-number.result
-    (slice_get_read c.in-Some.row.found 16 (c.args.number - c.in-Some.row.from) c.index-found-number.result (search rules) c.if-number-row-2.false c.index-found-number.is)
+    subst (λ (o : Option Row). HasRow o es) c.in-Some.is h (c.args.number - c.in-Some.row.from)
+    c.index-found-number.result
+    (slice_get_read c.in-Some.row.found 16 (c.args.number - c.in-Some.row.from) c.index-found-number.result
+    (search rules) c.if-number-row-2.false c.index-found-number.is)
     c.if-number-row-2.false
     ∙ ap (λ (n : ℕ). lookup (is_at (nat_cmp n)) es) reached
   where

@@ -9,12 +9,14 @@ loop-init g c = rw c.new-lines.ensures.items (none_read (g.R.Read.remaining c.ar
 
 pub returns-in-None-clause-ok : goal.returns-in-None-clause-ok
 returns-in-None-clause-ok g c =
-    all_read (g.R.Read.remaining c.args.input.now) (g.R.Read.remaining c.loop.input) (g.R.Read.remaining c.next_line.new.input) (lines_in c.loop.lines.items) c.loop.invariant
+    all_read (g.R.Read.remaining c.args.input.now) (g.R.Read.remaining c.loop.input)
+    (g.R.Read.remaining c.next_line.new.input) (lines_in c.loop.lines.items) c.loop.invariant
     (rw c.in-None.is at c.in_ok-line.ensures.ok)
 
 pub loop-preserved : goal.loop-preserved
 loop-preserved g c =
     rw c.in_ok-push-in-Some.ensures.items
     (rw (map-append (λ line. line.items) c.loop.lines.items _)
-    (line_read (g.R.Read.remaining c.args.input.now) (g.R.Read.remaining c.loop.input) (g.R.Read.remaining c.next_line.new.input) (lines_in c.loop.lines.items) c.in-Some.line.items
+    (line_read (g.R.Read.remaining c.args.input.now) (g.R.Read.remaining c.loop.input)
+    (g.R.Read.remaining c.next_line.new.input) (lines_in c.loop.lines.items) c.in-Some.line.items
     c.loop.invariant (rw c.in-Some.is at c.in_ok-line.ensures.ok)))

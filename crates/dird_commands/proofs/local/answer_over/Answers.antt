@@ -19,13 +19,16 @@ returns-in-Ok-clause-ok g c =
       client = session_client 0 0 1;
     } in
     subst
-    (λ (x : ConfigValue). Answers allows x c.args.directory.now c.answer_lines.new.directory (g.R.Read.remaining c.args.input.now)
-    (g.R.Read.remaining c.answer_lines.new.input) (g.W.Write.contents c.args.output.now) (g.W.Write.contents c.answer_lines.new.output) c.in-Ok.end)
+    (λ (x : ConfigValue). Answers allows x c.args.directory.now c.answer_lines.new.directory
+    (g.R.Read.remaining c.args.input.now)
+    (g.R.Read.remaining c.answer_lines.new.input) (g.W.Write.contents c.args.output.now)
+    (g.W.Write.contents c.answer_lines.new.output) c.in-Ok.end)
     (ap₂ config c.in_ok-manager.ensures c.as_bytes.ensures.value)
     c.in-Ok.ensures.ok
 
 -- the session did not begin
-not_begun : {T : Type 0} (c : ConfigValue) (d : LocalValue) (input output : Option (List ℕ)) (r : Result T Fault) → IfErr r (λ fault. IsCutFrom c d d input output output fault)
+not_begun : {T : Type 0} (c : ConfigValue) (d : LocalValue) (input output : Option (List ℕ)) (r : Result T Fault) →
+    IfErr r (λ fault. IsCutFrom c d d input output output fault)
 not_begun c d input output (Ok x) = tt
 not_begun c d input output (Err fault) = inl refl
 

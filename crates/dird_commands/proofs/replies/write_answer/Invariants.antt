@@ -6,4 +6,5 @@ use Rattle.dird_commands.proofs.replies.write_answer.Given as goal
 
 abbrev pub invariant-loop-entry : goal.invariant-loop-entry
 invariant-loop-entry g l =
-    Appends (g.W.Write.contents l.initial.output) (g.W.Write.contents l.output) (flat_map (λ e. entry_line (found_view e).object_name) (take l.entry-index l.entries))
+    Appends (g.W.Write.contents l.initial.output) (g.W.Write.contents l.output)
+    (flat_map (λ e. entry_line (found_view e).object_name) (take l.entry-index l.entries))

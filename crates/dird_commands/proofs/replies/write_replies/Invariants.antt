@@ -6,4 +6,5 @@ use Rattle.dird_commands.proofs.replies.write_replies.Given as goal
 
 abbrev pub invariant-loop-reply : goal.invariant-loop-reply
 invariant-loop-reply g l =
-    Appends (g.W.Write.contents l.initial.output) (g.W.Write.contents l.output) (flat_map text_of (map shown_view (take l.reply-index l.replies)))
+    Appends (g.W.Write.contents l.initial.output) (g.W.Write.contents l.output)
+    (flat_map text_of (map shown_view (take l.reply-index l.replies)))

@@ -5,4 +5,5 @@ use Rattle.entry_changes.proofs.changing.delete_attribute.Goals as goal
 pub returns-clause-keyed : goal.returns-clause-keyed
 returns-clause-keyed c = λ s h.
     subst (λ (e : List KeyedAttribute). IsKeyedBy s e) (sym c.from_attributes.ensures)
-    (c.take_attribute-attribute.ensures.keyed s (subst (λ (e : List KeyedAttribute). IsKeyedBy s e) (sym c.into_attributes.ensures) h))
+    (c.take_attribute-attribute.ensures.keyed s (subst (λ (e : List KeyedAttribute). IsKeyedBy s e)
+    (sym c.into_attributes.ensures) h))

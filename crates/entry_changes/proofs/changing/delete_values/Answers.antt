@@ -2,4 +2,5 @@ use Rattle.std.proofs.lemmas.Result.{IfOk-weaker}
 use Rattle.entry_changes.proofs.changing.delete_values.Goals as goal
 
 pub returns-then-is_empty-clause-keyed : goal.returns-then-is_empty-clause-keyed
-returns-then-is_empty-clause-keyed c = IfOk-weaker c.delete_attribute.result _ _ (λ e h. h c.requires) (c.delete_attribute.ensures.keyed c.args.schema.now)
+returns-then-is_empty-clause-keyed c = IfOk-weaker c.delete_attribute.result _ _ (λ e h. h c.requires)
+    (c.delete_attribute.ensures.keyed c.args.schema.now)

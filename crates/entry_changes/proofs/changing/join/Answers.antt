@@ -8,4 +8,5 @@ use Rattle.entry_changes.proofs.changing.join.Goals as goal
 
 pub returns-in-None-clause-fresh : goal.returns-in-None-clause-fresh
 returns-in-None-clause-fresh c =
-    ap (λ (o : Option KeyedAttribute). list_any (holds c.args.schema.now c.args.given.kind (values_held o)) c.args.given.values) c.in-None.is ∙ none_of c.args.given.values
+    ap (λ (o : Option KeyedAttribute). list_any (holds c.args.schema.now c.args.given.kind (values_held o))
+    c.args.given.values) c.in-None.is ∙ none_of c.args.given.values

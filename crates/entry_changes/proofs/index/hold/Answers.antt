@@ -8,9 +8,12 @@ pub returns-clause-held : goal.returns-clause-held
 returns-clause-held c =
     on_ok c.put_all.result
     (λ h q. h q ∙ ap (λ b. cond b (Some c.args.place) (since c.args.index.now.held.entries q))
-    (some_of_octets (λ (o : Bor (List ℕ)). o.now) (bytes_eq q) c.as_slice.result.now c.in_ok-octets.octets.items (octets_by c.args.index.now.by_keys c.args.given.now) c.as_slice.ensures.value c.in_ok-octets.ensures)) c.put_all.ensures.ok
+    (some_of_octets (λ (o : Bor (List ℕ)). o.now) (bytes_eq q) c.as_slice.result.now c.in_ok-octets.octets.items
+    (octets_by c.args.index.now.by_keys c.args.given.now) c.as_slice.ensures.value c.in_ok-octets.ensures))
+    c.put_all.ensures.ok
 
 pub returns-clause-others : goal.returns-clause-others
 returns-clause-others c = λ q none.
     c.put_all.ensures.others q
-    (some_of_octets (λ (o : Bor (List ℕ)). o.now) (bytes_eq q) c.as_slice.result.now c.in_ok-octets.octets.items (octets_by c.args.index.now.by_keys c.args.given.now) c.as_slice.ensures.value c.in_ok-octets.ensures ∙ none)
+    (some_of_octets (λ (o : Bor (List ℕ)). o.now) (bytes_eq q) c.as_slice.result.now c.in_ok-octets.octets.items
+    (octets_by c.args.index.now.by_keys c.args.given.now) c.as_slice.ensures.value c.in_ok-octets.ensures ∙ none)

@@ -6,4 +6,6 @@ use Rattle.entry_changes.proofs.index.holds_all_of.Goals as goal
 pub returns : goal.returns
 returns c =
     c.are_all_held.ensures
-    ∙ all_of_octets (λ (o : Bor (List ℕ)). o.now) (λ x. is_some (since c.args.index.now.held.entries x)) c.as_slice.result.now c.in_ok-octets.octets.items (octets_by c.args.index.now.by_keys c.args.given.now) c.as_slice.ensures.value c.in_ok-octets.ensures
+    ∙ all_of_octets (λ (o : Bor (List ℕ)). o.now) (λ x. is_some (since c.args.index.now.held.entries x))
+    c.as_slice.result.now c.in_ok-octets.octets.items (octets_by c.args.index.now.by_keys c.args.given.now)
+    c.as_slice.ensures.value c.in_ok-octets.ensures

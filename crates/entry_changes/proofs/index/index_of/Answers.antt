@@ -9,5 +9,8 @@ pub returns-clause-held : goal.returns-clause-held
 returns-clause-held c = λ q.
     c.in_ok-put_all.ensures.ok q
     ∙ ap (λ b. cond b (Some 0) (since c.new-held.result.entries q))
-    (some_of_octets (λ (o : Bor (List ℕ)). o.now) (bytes_eq q) c.as_slice.result.now c.in_ok-octets.octets.items (octets_by c.args.by_keys c.args.attribute.now) c.as_slice.ensures.value c.in_ok-octets.ensures)
-    ∙ ap (λ (l : List (Vec ℕ Global × ℕ)). cond (list_any (bytes_eq q) (octets_by c.args.by_keys c.args.attribute.now)) (Some 0) (since l q)) c.new-held.ensures.empty
+    (some_of_octets (λ (o : Bor (List ℕ)). o.now) (bytes_eq q) c.as_slice.result.now c.in_ok-octets.octets.items
+    (octets_by c.args.by_keys c.args.attribute.now) c.as_slice.ensures.value c.in_ok-octets.ensures)
+    ∙ ap (λ (l : List (Vec ℕ Global × ℕ)).
+    cond (list_any (bytes_eq q) (octets_by c.args.by_keys c.args.attribute.now)) (Some 0) (since l q))
+    c.new-held.ensures.empty

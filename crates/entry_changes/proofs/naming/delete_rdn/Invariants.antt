@@ -5,5 +5,6 @@ use Rattle.entry_changes.proofs.naming.delete_rdn.Given as goal
 
 abbrev pub invariant-loop-pair : goal.invariant-loop-pair
 invariant-loop-pair l =
-    (without_rdn l.schema l.new (drop l.pair-index l.old) (attributes_of l.so_far) ≡ without_rdn l.schema l.new l.old (attributes_of l.fn.entry))
+    (without_rdn l.schema l.new (drop l.pair-index l.old) (attributes_of l.so_far) ≡ without_rdn l.schema l.new l.old
+    (attributes_of l.fn.entry))
     × IsKeyedBy l.schema l.so_far

@@ -8,9 +8,11 @@ pub returns-in-Some : goal.returns-in-Some
 returns-in-Some c =
     c.has_key.ensures
     ∙ ap (list_any (bytes_eq c.in-Some.key)) c.keys.ensures
-    ∙ held_by_key c.tests_are_items.ensures c.args.schema.now c.args.attribute.now.kind c.args.rule c.args.value.now c.in-Some.key c.args.attribute.now.values c.args.attribute.now.keys c.requires.rule
+    ∙ held_by_key c.tests_are_items.ensures c.args.schema.now c.args.attribute.now.kind c.args.rule c.args.value.now
+    c.in-Some.key c.args.attribute.now.values c.args.attribute.now.keys c.requires.rule
     (c.key_or_none.ensures.some c.in-Some.key (c.in_ok-key.was ∙ ap Ok c.in-Some.is)) c.requires.keyed
 
 pub returns-in-None : goal.returns-in-None
 returns-in-None c =
-    sym (held_by_none c.args.schema.now c.args.attribute.now.kind c.args.rule c.args.value.now c.args.attribute.now.values c.requires.rule (c.key_or_none.ensures.none (c.in_ok-key.was ∙ ap Ok c.in-None.is)))
+    sym (held_by_none c.args.schema.now c.args.attribute.now.kind c.args.rule c.args.value.now
+    c.args.attribute.now.values c.requires.rule (c.key_or_none.ensures.none (c.in_ok-key.was ∙ ap Ok c.in-None.is)))

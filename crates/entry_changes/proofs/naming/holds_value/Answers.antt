@@ -9,4 +9,5 @@ returns-in-None c =
     c.has_octets.ensures
     ∙ held_by_octets c.args.schema.now c.args.attribute.now.kind c.args.value.now c.values.result.now
     (ap (equality_of c.args.schema.now) (sym c.type_id.ensures) ∙ sym c.equality_rule.ensures ∙ c.in-None.is)
-    ∙ ap (λ (vs : List (List ℕ)). holds c.args.schema.now c.args.attribute.now.kind vs c.args.value.now) c.values.ensures
+    ∙ ap (λ (vs : List (List ℕ)). holds c.args.schema.now c.args.attribute.now.kind vs c.args.value.now)
+    c.values.ensures

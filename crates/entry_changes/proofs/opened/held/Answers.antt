@@ -6,4 +6,6 @@ use Rattle.entry_changes.proofs.opened.held.Goals as goal
 pub returns : goal.returns
 returns c =
     three_ok _ _ _ _ c.kept.result c.kept.ensures.kind c.kept.ensures.values c.kept.ensures.keys
-    (λ a k v w. same_attribute a _ k (v ∙ ap (λ ms. picked ms c.args.attribute.values) (c.as_slice.ensures.value ∙ c.in_ok-marks.ensures)) (w ∙ ap (λ ms. picked ms c.args.attribute.keys) (c.as_slice.ensures.value ∙ c.in_ok-marks.ensures)))
+    (λ a k v w. same_attribute a _ k (v ∙ ap (λ ms. picked ms c.args.attribute.values) (c.as_slice.ensures.value
+    ∙ c.in_ok-marks.ensures)) (w ∙ ap (λ ms. picked ms c.args.attribute.keys) (c.as_slice.ensures.value
+    ∙ c.in_ok-marks.ensures)))

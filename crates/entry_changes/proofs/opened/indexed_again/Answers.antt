@@ -7,7 +7,9 @@ use Rattle.entry_changes.proofs.opened.indexed_again.Goals as goal
 
 pub newly_indexed-requires : goal.newly_indexed-requires
 newly_indexed-requires c =
-    ap (λ (a : KeyedAttribute). length (octets_by c.args.by_keys a)) c.in_ok-attribute.ensures ∙ c.requires.long ∙ ap (λ (a : KeyedAttribute). length a.values) (sym c.in_ok-attribute.ensures)
+    ap (λ (a : KeyedAttribute). length (octets_by c.args.by_keys a)) c.in_ok-attribute.ensures ∙ c.requires.long
+    ∙ ap (λ (a : KeyedAttribute). length a.values) (sym c.in_ok-attribute.ensures)
 
 pub returns : goal.returns
-returns c = IfOk-weaker c.newly_indexed.result _ _ (λ x h. subst (λ (a : KeyedAttribute). IsIndexed c.args.by_keys a x) c.in_ok-attribute.ensures h) c.newly_indexed.ensures
+returns c = IfOk-weaker c.newly_indexed.result _ _ (λ x h. subst (λ (a : KeyedAttribute). IsIndexed c.args.by_keys a
+    x) c.in_ok-attribute.ensures h) c.newly_indexed.ensures

@@ -6,23 +6,28 @@ use Rattle.entry_changes.proofs.opened.left_by_search.Goals as goal
 pub returns-then-not-branch-clause-refused : goal.returns-then-not-branch-clause-refused
 returns-then-not-branch-clause-refused c = (
   refl,
-  ap not (sym (all_found c.tests_are_items.ensures c.args.schema.now c.args.held c.args.given.now c.requires.kind c.requires.held c.requires.given c.is_by_keys-by_keys.result
+  ap not (sym (all_found c.tests_are_items.ensures c.args.schema.now c.args.held c.args.given.now c.requires.kind
+      c.requires.held c.requires.given c.is_by_keys-by_keys.result
       (c.is_by_keys-by_keys.ensures ∙ ap (λ t. is_some (equality_of c.args.schema.now t)) c.type_id.ensures))
       ∙ sym c.in_ok-has_all_of.ensures ∙ c.if-not-branch.true),
 )
 
 pub returns-clause-held : goal.returns-clause-held
 returns-clause-held c =
-    sym (all_found c.tests_are_items.ensures c.args.schema.now c.args.held c.args.given.now c.requires.kind c.requires.held c.requires.given c.is_by_keys-by_keys.result
+    sym (all_found c.tests_are_items.ensures c.args.schema.now c.args.held c.args.given.now c.requires.kind
+    c.requires.held c.requires.given c.is_by_keys-by_keys.result
     (c.is_by_keys-by_keys.ensures ∙ ap (λ t. is_some (equality_of c.args.schema.now t)) c.type_id.ensures))
     ∙ sym c.in_ok-has_all_of.ensures ∙ c.if-not-branch.false
 
 pub returns-clause-values : goal.returns-clause-values
 returns-clause-values c =
-    values_found c.tests_are_items.ensures c.args.schema.now c.args.held c.args.given.now c.requires.kind c.requires.held c.requires.given c.is_by_keys-by_keys.result
+    values_found c.tests_are_items.ensures c.args.schema.now c.args.held c.args.given.now c.requires.kind
+    c.requires.held c.requires.given c.is_by_keys-by_keys.result
     (c.is_by_keys-by_keys.ensures ∙ ap (λ t. is_some (equality_of c.args.schema.now t)) c.type_id.ensures)
-    c.in_ok-attribute.attribute.values c.as_slice.result.now c.in_ok-attribute.ensures.values (c.as_slice.ensures.value ∙ c.in_ok-marks.ensures)
+    c.in_ok-attribute.attribute.values c.as_slice.result.now c.in_ok-attribute.ensures.values
+    (c.as_slice.ensures.value ∙ c.in_ok-marks.ensures)
 
 pub returns-clause-keyed : goal.returns-clause-keyed
 returns-clause-keyed c =
-    keyed_marked c.args.schema.now c.args.held c.in_ok-attribute.attribute c.as_slice.result.now c.requires.held c.in_ok-attribute.ensures.kind c.in_ok-attribute.ensures.values c.in_ok-attribute.ensures.keys
+    keyed_marked c.args.schema.now c.args.held c.in_ok-attribute.attribute c.as_slice.result.now c.requires.held
+    c.in_ok-attribute.ensures.kind c.in_ok-attribute.ensures.values c.in_ok-attribute.ensures.keys

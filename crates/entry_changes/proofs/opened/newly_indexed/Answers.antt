@@ -3,4 +3,6 @@ use Rattle.entry_changes.proofs.Indexing.{new_index}
 use Rattle.entry_changes.proofs.opened.newly_indexed.Goals as goal
 
 pub returns : goal.returns
-returns c = new_index c.args.by_keys c.args.attribute (record { attribute = c.args.attribute; index = c.in_ok-index.index }) c.requires refl c.in_ok-index.ensures.by_keys c.in_ok-index.ensures.held
+returns c = new_index c.args.by_keys c.args.attribute
+    (record { attribute = c.args.attribute; index = c.in_ok-index.index }) c.requires refl
+    c.in_ok-index.ensures.by_keys c.in_ok-index.ensures.held

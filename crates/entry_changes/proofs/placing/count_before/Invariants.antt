@@ -5,4 +5,5 @@ use Rattle.entry_changes.proofs.placing.count_before.Given as goal
 abbrev pub invariant-loop-attribute : goal.invariant-loop-attribute
 invariant-loop-attribute l =
     (l.count ≡ l.attribute-index)
-    × (l.count + prefix_len (λ a. not (nat_eq a.kind l.type_id)) (drop l.attribute-index l.attributes) ≡ prefix_len (λ a. not (nat_eq a.kind l.type_id)) l.attributes)
+    × (l.count + prefix_len (λ a. not (nat_eq a.kind l.type_id)) (drop l.attribute-index l.attributes) ≡
+    prefix_len (λ a. not (nat_eq a.kind l.type_id)) l.attributes)

@@ -6,5 +6,6 @@ use Rattle.entry_changes.proofs.searched.are_all_among.Given as goal
 
 abbrev pub invariant-loop-octets : goal.invariant-loop-octets
 invariant-loop-octets l =
-    list_all (λ (o : Bor (List ℕ)). list_any (bytes_eq o.now) (octets_by l.by_keys l.attribute)) (drop l.octets-index l.list)
+    list_all (λ (o : Bor (List ℕ)). list_any (bytes_eq o.now) (octets_by l.by_keys l.attribute))
+    (drop l.octets-index l.list)
     ≡ list_all (λ (o : Bor (List ℕ)). list_any (bytes_eq o.now) (octets_by l.by_keys l.attribute)) l.list

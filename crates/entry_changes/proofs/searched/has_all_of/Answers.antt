@@ -8,4 +8,7 @@ use Rattle.entry_changes.proofs.searched.has_all_of.Goals as goal
 pub returns : goal.returns
 returns c =
     c.are_all_among.ensures
-    ∙ all_of_octets (λ (o : Bor (List ℕ)). o.now) (λ x. list_any (bytes_eq x) (octets_by c.args.by_keys c.args.attribute.now)) c.as_slice.result.now c.in_ok-octets.octets.items (octets_by c.args.by_keys c.args.given.now) c.as_slice.ensures.value c.in_ok-octets.ensures
+    ∙ all_of_octets (λ (o : Bor (List ℕ)). o.now)
+    (λ x. list_any (bytes_eq x) (octets_by c.args.by_keys c.args.attribute.now)) c.as_slice.result.now
+    c.in_ok-octets.octets.items (octets_by c.args.by_keys c.args.given.now) c.as_slice.ensures.value
+    c.in_ok-octets.ensures

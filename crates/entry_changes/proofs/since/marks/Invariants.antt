@@ -5,4 +5,5 @@ use Rattle.entry_changes.proofs.since.marks.Given as goal
 abbrev pub invariant-loop-octets : goal.invariant-loop-octets
 invariant-loop-octets l =
     (l.place ≡ l.octets-index)
-    × (l.marks.items ++ marks_from (since l.held.entries) l.place (map (λ (o : Bor (List ℕ)). o.now) (drop l.octets-index l.list)) ≡ marks_from (since l.held.entries) 0 (map (λ (o : Bor (List ℕ)). o.now) l.list))
+    × (l.marks.items ++ marks_from (since l.held.entries) l.place (map (λ (o : Bor (List ℕ)). o.now)
+    (drop l.octets-index l.list)) ≡ marks_from (since l.held.entries) 0 (map (λ (o : Bor (List ℕ)). o.now) l.list))

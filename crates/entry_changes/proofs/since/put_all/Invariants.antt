@@ -5,4 +5,6 @@ use Rattle.entry_changes.specs.Opening.{since}
 use Rattle.entry_changes.proofs.since.put_all.Given as goal
 
 abbrev pub invariant-loop-octets : goal.invariant-loop-octets
-invariant-loop-octets l = (q : List ℕ) → since l.held.entries q ≡ cond (list_any (λ (o : Bor (List ℕ)). bytes_eq q o.now) (take l.octets-index l.list)) (Some l.place) (since l.fn.held.entries q)
+invariant-loop-octets l = (q : List ℕ) → since l.held.entries q ≡
+    cond (list_any (λ (o : Bor (List ℕ)). bytes_eq q o.now) (take l.octets-index l.list)) (Some l.place)
+    (since l.fn.held.entries q)

@@ -9,6 +9,8 @@ true_false h = cc
 
 pub unreachable-requires : goal.unreachable-requires
 unreachable-requires c =
-    true_false (sym (classes_in_syntax c.args.schema.now c.args.attribute.kind (λ (v : Vec ℕ Global). v.items) c.in_ok-names.names.items
-    (subst (IsObjectClassType c.args.schema.now) (same_kind c.type_id.result c.object_class_type.result c.if-ne.ensures ∙ c.type_id.ensures) c.object_class_type.ensures) c.in_ok-names.ensures.named)
+    true_false (sym (classes_in_syntax c.args.schema.now c.args.attribute.kind (λ (v : Vec ℕ Global). v.items)
+    c.in_ok-names.names.items
+    (subst (IsObjectClassType c.args.schema.now) (same_kind c.type_id.result c.object_class_type.result
+    c.if-ne.ensures ∙ c.type_id.ensures) c.object_class_type.ensures) c.in_ok-names.ensures.named)
     ∙ c.in-Err-NotInSyntax.ensures.refused (ap Err c.in-Err-NotInSyntax.field-0-is))

@@ -3,4 +3,5 @@ use Rattle.entry_classes.proofs.Shown.{allowed_shown}
 use Rattle.entry_classes.proofs.obeying.are_allowed.Goals as goal
 
 pub returns : goal.returns
-returns c = c.are_of_allowed_types.ensures ∙ sym (allowed_shown c.args.schema.now c.args.classes.now c.args.attributes.now)
+returns c = c.are_of_allowed_types.ensures ∙ sym (allowed_shown c.args.schema.now c.args.classes.now
+    c.args.attributes.now)

@@ -6,5 +6,6 @@ use Rattle.entry_classes.proofs.obeying.is_one_chain.Goals as goal
 pub returns : goal.returns
 returns c =
     IfOk-weaker c.are_in_line.result _ _
-    (λ b e. chained c.args.schema.now c.args.classes.now c.as_slice.result.now b e (c.as_slice.ensures.value ∙ c.in_ok-structural.ensures) (sym c.has_structural.ensures ∙ c.if-not-has_structural.false))
+    (λ b e. chained c.args.schema.now c.args.classes.now c.as_slice.result.now b e (c.as_slice.ensures.value
+    ∙ c.in_ok-structural.ensures) (sym c.has_structural.ensures ∙ c.if-not-has_structural.false))
     c.are_in_line.ensures

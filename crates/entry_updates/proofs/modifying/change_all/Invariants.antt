@@ -7,5 +7,6 @@ use Rattle.entry_updates.proofs.modifying.change_all.Given as goal
 -- what is left to change, on the entry so far, is all that is asked
 abbrev pub invariant-loop-asked : goal.invariant-loop-asked
 invariant-loop-asked l =
-    (all_changed l.schema (map change_view (drop l.asked-index l.changes)) (attributes_of l.so_far) ≡ all_changed l.schema (map change_view l.changes) (attributes_of l.fn.entry))
+    (all_changed l.schema (map change_view (drop l.asked-index l.changes)) (attributes_of l.so_far) ≡
+    all_changed l.schema (map change_view l.changes) (attributes_of l.fn.entry))
     × IsKeyedBy l.schema l.so_far

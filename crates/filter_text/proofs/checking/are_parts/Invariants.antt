@@ -5,4 +5,5 @@ use Rattle.filter_text.specs.Items.{is_part}
 use Rattle.filter_text.proofs.checking.are_parts.Given as goal
 
 abbrev pub invariant-loop-value : goal.invariant-loop-value
-invariant-loop-value l = list_all is_part (map (λ v. v.items) (drop l.value-index l.values)) ≡ list_all is_part (map (λ v. v.items) l.values)
+invariant-loop-value l = list_all is_part (map (λ v. v.items) (drop l.value-index l.values)) ≡ list_all is_part
+    (map (λ v. v.items) l.values)

@@ -6,5 +6,6 @@ use Rattle.filter_text.proofs.printing.+print.Given as goal
 
 abbrev pub invariant-put_filters-loop-filter : goal.invariant-put_filters-loop-filter
 invariant-put_filters-loop-filter l =
-    (string_bytes l.out ++ filter_texts (views (drop l.filter-index l.filters)) ≡ string_bytes l.fn.out ++ filter_texts (views l.filters))
+    (string_bytes l.out ++ filter_texts (views (drop l.filter-index l.filters)) ≡ string_bytes
+    l.fn.out ++ filter_texts (views l.filters))
     × (string_bytes l.out ≡ string_bytes l.fn.out ++ drop (length (string_bytes l.fn.out)) (string_bytes l.out))

@@ -13,8 +13,11 @@ no_text b t e f text p = absurd (differ (sym f ∙ e ∙ spelled_filter t text [
     differ h = cc
 
 pub returns-then-not-has_text-clause-refused : goal.returns-then-not-has_text-clause-refused
-returns-then-not-has_text-clause-refused c = (refl, no_text c.has_text.result (view c.args.filter.now) c.has_text.ensures c.if-not-has_text.true)
+returns-then-not-has_text-clause-refused c =
+    (refl, no_text c.has_text.result (view c.args.filter.now) c.has_text.ensures c.if-not-has_text.true)
 
 pub returns-clause-spells : goal.returns-clause-spells
 returns-clause-spells c =
-    subst (IsFilterText (view c.args.filter.now)) (sym (c.in_ok-put_filter.ensures.ok ∙ ap (λ (x : List ℕ). x ++ filter_text (view c.args.filter.now)) c.new-out.ensures.bytes)) (filter_spells (view c.args.filter.now) [] (sym c.has_text.ensures ∙ c.if-not-has_text.false))
+    subst (IsFilterText (view c.args.filter.now)) (sym (c.in_ok-put_filter.ensures.ok
+    ∙ ap (λ (x : List ℕ). x ++ filter_text (view c.args.filter.now)) c.new-out.ensures.bytes))
+    (filter_spells (view c.args.filter.now) [] (sym c.has_text.ensures ∙ c.if-not-has_text.false))

@@ -12,4 +12,5 @@ pub returns-in-Ok : goal.returns-in-Ok
 returns-in-Ok c = (is_utf8-from_IsUtf8 c.args.octets.now c.in-Ok.ensures.cases.1, c.in-Ok.ensures.cases.0)
 
 pub returns-in-Err : goal.returns-in-Err
-returns-in-Err c = not_true (is_utf8 c.args.octets.now) (λ e. c.in-Err.ensures.cases.0 (IsUtf8-from_is_utf8 c.args.octets.now e))
+returns-in-Err c = not_true (is_utf8 c.args.octets.now) (λ e. c.in-Err.ensures.cases.0
+    (IsUtf8-from_is_utf8 c.args.octets.now e))

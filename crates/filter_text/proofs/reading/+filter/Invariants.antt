@@ -23,7 +23,8 @@ abbrev pub decreases-row_of : goal.decreases-row_of
 decreases-row_of l = 4 * l.depth + 1
 
 abbrev pub invariant-row_of-loop-alloc : goal.invariant-row_of-loop-alloc
-invariant-row_of-loop-alloc l = SoFar l.depth l.initial.items l.text (views l.filters.items) l.left l.rest × (l.left ≤ l.initial.items)
+invariant-row_of-loop-alloc l = SoFar l.depth l.initial.items l.text (views l.filters.items) l.left l.rest
+    × (l.left ≤ l.initial.items)
 
 abbrev pub decreases-row_of-loop-alloc : goal.decreases-row_of-loop-alloc
 decreases-row_of-loop-alloc l = l.left

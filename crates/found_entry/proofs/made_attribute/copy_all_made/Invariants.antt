@@ -4,4 +4,5 @@ use Rattle.found_entry.proofs.made_attribute.copy_all_made.Given as goal
 
 -- those so far
 abbrev pub invariant-loop-attribute : goal.invariant-loop-attribute
-invariant-loop-attribute l = map attribute_view l.copies.items ≡ map attribute_view (take l.attribute-index l.attributes)
+invariant-loop-attribute l = map attribute_view l.copies.items ≡ map attribute_view
+    (take l.attribute-index l.attributes)

@@ -6,4 +6,5 @@ use Rattle.found_entry.proofs.selection.leads_to_some.Given as goal
 
 -- what is left of the chain answers as the whole
 abbrev pub invariant-loop : goal.invariant-loop
-invariant-loop l = list_any (is_held l.types) (superiors (length l.schema.types) l.schema.types l.fn.type_id) ≡ list_any (is_held l.types) (superiors (length l.schema.types - l.counter) l.schema.types l.current)
+invariant-loop l = list_any (is_held l.types) (superiors (length l.schema.types) l.schema.types l.fn.type_id) ≡
+    list_any (is_held l.types) (superiors (length l.schema.types - l.counter) l.schema.types l.current)

@@ -15,8 +15,11 @@ returns-in_err-write_head-clause-kept c = kept_same _ _ c.in_err-write_head.ensu
 
 pub returns-clause-ok : goal.returns-clause-ok
 returns-clause-ok c =
-    headed c.put_values.result c.args.out.now.items c.write_head.new.out.items c.put_values.new.out.items 49 c.values_length.result 4294967296 (row_bytes (element_bytes 4) c.args.values.now)
-    c.values_length.ensures (in_range _ _ _ _ c.in_ok-write_head.ensures.too_long) c.in_ok-write_head.ensures.ok c.put_values.ensures.ok
+    headed c.put_values.result c.args.out.now.items c.write_head.new.out.items c.put_values.new.out.items 49
+    c.values_length.result 4294967296 (row_bytes (element_bytes 4) c.args.values.now)
+    c.values_length.ensures (in_range _ _ _ _ c.in_ok-write_head.ensures.too_long) c.in_ok-write_head.ensures.ok
+    c.put_values.ensures.ok
 
 pub returns-clause-kept : goal.returns-clause-kept
-returns-clause-kept c = kept_more _ c.write_head.new.out.items _ (49 ∷ length_octets c.values_length.result) c.in_ok-write_head.ensures.ok c.put_values.ensures.kept
+returns-clause-kept c = kept_more _ c.write_head.new.out.items _ (49 ∷ length_octets c.values_length.result)
+    c.in_ok-write_head.ensures.ok c.put_values.ensures.kept

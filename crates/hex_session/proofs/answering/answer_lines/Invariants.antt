@@ -6,4 +6,6 @@ use Rattle.hex_session.proofs.answering.answer_lines.Given as goal
 -- the lines so far are answered
 abbrev pub invariant-loop-number : goal.invariant-loop-number
 invariant-loop-number g l =
-    LinesSoFar g.D.Directory.allows (config_view l.fn.config) l.fn.directory l.directory (session_view l.session) (g.R.Read.remaining l.fn.input) (g.R.Read.remaining l.input) (g.W.Write.contents l.fn.output) (g.W.Write.contents l.output) l.number
+    LinesSoFar g.D.Directory.allows (config_view l.fn.config) l.fn.directory l.directory (session_view l.session)
+    (g.R.Read.remaining l.fn.input) (g.R.Read.remaining l.input) (g.W.Write.contents l.fn.output)
+    (g.W.Write.contents l.output) l.number

@@ -10,4 +10,5 @@ inside : (s : SessionValue) (end : SessionEnd) → (end ≡ EndOfInput → ⊥) 
 inside s end apart at fault = ⊎_elim (λ h. absurd (apart h.0)) (λ h. inr (refl, h.1)) (at fault)
 
 pub returns-in_default-clause-at_last : goal.returns-in_default-clause-at_last
-returns-in_default-clause-at_last c = inside (session_view c.args.session.now) c.end_of_input.result c.in_default.not-EndOfInput c.end_of_input.ensures
+returns-in_default-clause-at_last c = inside (session_view c.args.session.now) c.end_of_input.result
+    c.in_default.not-EndOfInput c.end_of_input.ensures

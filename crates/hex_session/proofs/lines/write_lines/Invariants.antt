@@ -7,5 +7,6 @@ use Rattle.hex_session.proofs.lines.write_lines.Given as goal
 -- the lines of the responses so far are written, and the octets of the others are left
 abbrev pub invariant-loop-length : goal.invariant-loop-length
 invariant-loop-length g l =
-    Appends (g.W.Write.contents l.fn.output) (g.W.Write.contents l.output) (hex_lines (take l.length-index l.fn.responses))
+    Appends (g.W.Write.contents l.fn.output) (g.W.Write.contents l.output)
+    (hex_lines (take l.length-index l.fn.responses))
     × (l.rest ≡ joined (drop l.length-index l.fn.responses))

@@ -11,7 +11,9 @@ returns-clause-ok c =
     let old : List Kinds = c.args.kinds.now.items in
     let n : ℕ = c.number-number.result in
     let l : n < length ks = c.in_ok-reach.ensures.reached in
-    let here : c.joined.result ≡ joined (kinds_of ks n) c.args.more = c.joined.ensures ∙ ap (λ (k : Kinds). joined k c.args.more) (sym (kinds_here ks n c.index-now.result.now l c.index-now.ensures)) in
+    let here : c.joined.result ≡ joined (kinds_of ks n) c.args.more = c.joined.ensures
+    ∙ ap (λ (k : Kinds). joined k c.args.more)
+    (sym (kinds_here ks n c.index-now.result.now l c.index-now.ensures)) in
     λ t. kinds_set ks n t c.joined.result l
     ∙ ap (λ (k : Kinds). cond (nat_eq n t) k (kinds_of ks t)) here
     ∙ at_type n t (λ (u : ℕ). joined (kinds_of ks u) c.args.more) (kinds_of ks t)

@@ -6,4 +6,5 @@ use Rattle.indexed_tree.proofs.listing.listed_more.Goals as goal
 pub returns-clause-lists : goal.returns-clause-lists
 returns-clause-lists c =
     let d = c.args.tree.now.entries in
-    c.in_ok-add.ensures.ok (listed_of d) (of_same c.in_ok-lists.lists c.args.postings.now (listed_of d) (listed_of d) c.in_ok-lists.ensures refl c.requires.of) (listed_below c.args.number d c.requires.above)
+    c.in_ok-add.ensures.ok (listed_of d) (of_same c.in_ok-lists.lists c.args.postings.now (listed_of d) (listed_of d)
+    c.in_ok-lists.ensures refl c.requires.of) (listed_below c.args.number d c.requires.above)

@@ -10,11 +10,16 @@ pub returns-in_ok-remove-in-Some-clause-lists : goal.returns-in_ok-remove-in-Som
 returns-in_ok-remove-in-Some-clause-lists c =
     let d = c.args.tree.now.entries in
     let k = c.args.number in
-    of_same c.remove.new.self c.remove.new.self (listed_of (unnumbered k d)) (without k (listed_of d)) refl (listed_unnumbered k d c.is_directory.ensures.rise)
-    (c.in_ok-remove-in-Some.ensures.ok (listed_of d) (of_same c.in_ok-lists.lists c.args.postings.now (listed_of d) (listed_of d) c.in_ok-lists.ensures refl c.requires.of)
-    (subst (λ (e : List KeyedAttribute). HasEntry (listed_of d) k e) (sym c.deref.ensures) (held_at k d c.in-Some.held.now c.in-Some.ensures)))
+    of_same c.remove.new.self c.remove.new.self (listed_of (unnumbered k d)) (without k (listed_of d)) refl
+    (listed_unnumbered k d c.is_directory.ensures.rise)
+    (c.in_ok-remove-in-Some.ensures.ok (listed_of d) (of_same c.in_ok-lists.lists c.args.postings.now (listed_of d)
+    (listed_of d) c.in_ok-lists.ensures refl c.requires.of)
+    (subst (λ (e : List KeyedAttribute). HasEntry (listed_of d) k e) (sym c.deref.ensures)
+    (held_at k d c.in-Some.held.now c.in-Some.ensures)))
 
 pub returns-in-None-clause-lists : goal.returns-in-None-clause-lists
 returns-in-None-clause-lists c =
     let d = c.args.tree.now.entries in
-    of_same c.in_ok-lists.lists c.args.postings.now (listed_of (unnumbered c.args.number d)) (listed_of d) c.in_ok-lists.ensures (ap listed_of (none_unnumbered c.args.number d (none_at c.args.number d c.in-None.ensures))) c.requires.of
+    of_same c.in_ok-lists.lists c.args.postings.now (listed_of (unnumbered c.args.number d)) (listed_of d)
+    c.in_ok-lists.ensures (ap listed_of (none_unnumbered c.args.number d
+    (none_at c.args.number d c.in-None.ensures))) c.requires.of

@@ -8,4 +8,5 @@ pub returns : goal.returns
 returns c =
     IfOk-weaker c.spliced.result _ _ (λ r is.
     subst (λ (l : List ℕ). Mixed c.args.at c.args.octets.now c.args.image.now l) (sym is)
-    (first_mixed c.args.at c.args.octets.now c.args.image.now c.requires c.lasting-lasting.result c.lasting-lasting.ensures)) c.spliced.ensures
+    (first_mixed c.args.at c.args.octets.now c.args.image.now c.requires c.lasting-lasting.result
+    c.lasting-lasting.ensures)) c.spliced.ensures

@@ -3,4 +3,5 @@ use Rattle.journal.proofs.Torn.{many, frames_first, recorded_is}
 use Rattle.journal.proofs.laws.frames_are_read.Goals as goal
 
 pub returns : goal.returns
-returns c = λ bs room short. recorded_is bs (frames bs) room (record { many = many bs; first = λ most rest le. frames_first bs most rest short le })
+returns c = λ bs room short. recorded_is bs (frames bs) room
+    (record { many = many bs; first = λ most rest le. frames_first bs most rest short le })

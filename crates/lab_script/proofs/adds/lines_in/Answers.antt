@@ -8,5 +8,6 @@ use Rattle.lab_script.proofs.adds.lines_in.Goals as goal
 
 pub loop-piece-init : goal.loop-piece-init
 loop-piece-init c =
-    ap₂ (λ (vs : List ValueModel) (ps : List (Bor (List ℕ))). after vs (all_of (λ (p : Bor (List ℕ)). line_in p.now) ps)) c.new-lines.ensures.items c.deref-piece-items.ensures.value
+    ap₂ (λ (vs : List ValueModel) (ps : List (Bor (List ℕ))). after vs (all_of (λ (p : Bor (List ℕ)). line_in p.now)
+    ps)) c.new-lines.ensures.items c.deref-piece-items.ensures.value
     ∙ texts_begin line_in c.in_ok-pieces.pieces.items (slice_split (nat_eq 124) c.args.text.now) c.in_ok-pieces.ensures

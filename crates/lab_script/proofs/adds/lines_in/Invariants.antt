@@ -6,4 +6,5 @@ use Rattle.lab_script.proofs.adds.lines_in.Given as goal
 
 -- what is read so far, and then what is left, is all
 abbrev pub invariant-loop-piece : goal.invariant-loop-piece
-invariant-loop-piece l = after l.lines.items (all_of (λ (p : Bor (List ℕ)). line_in p.now) (drop l.piece-index l.piece-items)) ≡ lines_in l.text
+invariant-loop-piece l = after l.lines.items (all_of (λ (p : Bor (List ℕ)). line_in p.now)
+    (drop l.piece-index l.piece-items)) ≡ lines_in l.text

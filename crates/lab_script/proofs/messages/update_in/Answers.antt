@@ -5,7 +5,8 @@ use Rattle.lab_script.proofs.NoText.{no_message, no_update}
 use Rattle.lab_script.proofs.messages.update_in.Goals as goal
 
 pub returns-in-Ok-clause-bad : goal.returns-in-Ok-clause-bad
-returns-in-Ok-clause-bad c = λ e op. no_update c.args.octets.now (view c.in-Ok.message) op c.in-Ok.ensures.only (c.asked.ensures.bad e)
+returns-in-Ok-clause-bad c = λ e op. no_update c.args.octets.now (view c.in-Ok.message) op c.in-Ok.ensures.only
+    (c.asked.ensures.bad e)
 
 pub returns-in-Err-clause-bad : goal.returns-in-Err-clause-bad
 returns-in-Err-clause-bad c = λ e op.

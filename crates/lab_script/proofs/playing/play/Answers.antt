@@ -10,10 +10,14 @@ use Rattle.lab_script.proofs.playing.play.Goals as goal
 
 pub returns-clause-shown : goal.returns-clause-shown
 returns-clause-shown c =
-    let schedule : IsSchedule (lines_in c.args.lines.now) c.new-lab.result.count (views c.in_ok-script.script.events.items) =
-    subst (λ (n : ℕ). IsSchedule (lines_in c.args.lines.now) n (views c.in_ok-script.script.events.items)) (sym (ap (λ (l : Lab). l.count) c.new-lab.ensures)) c.in_ok-script.ensures.found in
-    let size = is_size (lines_in c.args.lines.now) c.new-lab.result.count (views c.in_ok-script.script.events.items) schedule in
-    subst (λ (l : Lab). IsPlayed (arc_value l.schema) l.suffix (lines_in c.args.lines.now) (map shown_view c.in_ok-shown.shown.items)) c.new-lab.ensures
+    let schedule : IsSchedule (lines_in c.args.lines.now) c.new-lab.result.count
+    (views c.in_ok-script.script.events.items) =
+    subst (λ (n : ℕ). IsSchedule (lines_in c.args.lines.now) n (views c.in_ok-script.script.events.items))
+    (sym (ap (λ (l : Lab). l.count) c.new-lab.ensures)) c.in_ok-script.ensures.found in
+    let size = is_size (lines_in c.args.lines.now) c.new-lab.result.count (views c.in_ok-script.script.events.items)
+    schedule in
+    subst (λ (l : Lab). IsPlayed (arc_value l.schema) l.suffix (lines_in c.args.lines.now)
+    (map shown_view c.in_ok-shown.shown.items)) c.new-lab.ensures
     (record {
       count = c.new-lab.result.count;
       events = c.in_ok-script.script.events.items;

@@ -7,5 +7,6 @@ use Rattle.lab_script.proofs.script.read_tokens.Goals as goal
 
 pub loop-word-init : goal.loop-word-init
 loop-word-init c =
-    ap₂ (λ (ts : List Token) (ws : List (Bor (List ℕ))). after ts (all_of (λ (w : Bor (List ℕ)). token_of w.now) ws)) c.new-tokens.ensures.items c.deref-word-items.ensures.value
+    ap₂ (λ (ts : List Token) (ws : List (Bor (List ℕ))). after ts (all_of (λ (w : Bor (List ℕ)). token_of w.now) ws))
+    c.new-tokens.ensures.items c.deref-word-items.ensures.value
     ∙ texts_begin token_of c.in_ok-words.words.items (words_of c.args.line.now) c.in_ok-words.ensures

@@ -4,4 +4,8 @@ use Rattle.ldap_ber.specs.Number.{number}
 use Rattle.ldap_ber.proofs.octets.number.Given as goal
 
 abbrev pub invariant-loop-octet : goal.invariant-loop-octet
-invariant-loop-octet l = record { value : l.n ≡ number (take l.octet-index l.octets); small : l.n < 2 ^ (8 * l.octet-index) }
+invariant-loop-octet l = record {
+  value : l.n ≡ number (take l.octet-index l.octets);
+  small :
+      l.n < 2 ^ (8 * l.octet-index);
+}

@@ -7,10 +7,20 @@ use Rattle.ldap_ber.proofs.values.integer.Goals as goal
 use Rattle.ldap_ber.proofs.values.integer.Goals.{After-number, After-complement}
 
 below : (c : After-number) → c.number.result < 2 ^ 63
-below c = omega (arith, c.number.ensures, positive_below c.args.content.now c.in-len1-up.len_at_least c.if-first-lt128.true (octets_from _ (λ i. omega (arith, c.type_inv.content i))) c.if-content-gt8.false)
+below c = omega (
+  arith,
+  c.number.ensures,
+  positive_below c.args.content.now c.in-len1-up.len_at_least
+      c.if-first-lt128.true (octets_from _ (λ i. omega (arith, c.type_inv.content i))) c.if-content-gt8.false,
+)
 
 below_turned : (c : After-complement) → c.complement.result < 2 ^ 63
-below_turned c = omega (arith, c.complement.ensures, negative_below c.args.content.now c.in-len1-up.len_at_least c.if-first-lt128.false c.if-content-gt8.false)
+below_turned c = omega (
+  arith,
+  c.complement.ensures,
+  negative_below c.args.content.now c.in-len1-up.len_at_least
+      c.if-first-lt128.false c.if-content-gt8.false,
+)
 
 pub overflow_cast-result : goal.overflow_cast-result
 overflow_cast-result c = let lt = below c in omega (arith, ints)
@@ -21,9 +31,11 @@ overflow_cast-result-else-first-lt128 c = let lt = below_turned c in omega (arit
 pub returns-then-first-lt128-clause-found : goal.returns-then-first-lt128-clause-found
 returns-then-first-lt128-clause-found c =
     let lt = below c in
-    is_positive c.args.content.now _ c.in-len1-up.len_at_least c.if-first-lt128.true c.if-content-gt8.false (c.is_minimal.ensures.0 c.if-not-is_minimal.false) (omega (arith, ints, c.number.ensures))
+    is_positive c.args.content.now _ c.in-len1-up.len_at_least c.if-first-lt128.true c.if-content-gt8.false
+    (c.is_minimal.ensures.0 c.if-not-is_minimal.false) (omega (arith, ints, c.number.ensures))
 
 pub returns-else-first-lt128-clause-found : goal.returns-else-first-lt128-clause-found
 returns-else-first-lt128-clause-found c =
     let lt = below_turned c in
-    is_negative c.args.content.now _ c.in-len1-up.len_at_least c.if-first-lt128.false c.if-content-gt8.false (c.is_minimal.ensures.0 c.if-not-is_minimal.false) (omega (arith, ints, c.complement.ensures))
+    is_negative c.args.content.now _ c.in-len1-up.len_at_least c.if-first-lt128.false c.if-content-gt8.false
+    (c.is_minimal.ensures.0 c.if-not-is_minimal.false) (omega (arith, ints, c.complement.ensures))

@@ -7,4 +7,5 @@ use Rattle.ldap_dn.proofs.cutting.pieces.Goals as goal
 pub returns : goal.returns
 returns c =
     map_from_collect c.collect.result c.collect.ensures.ran
-    (YieldsList-from_slice_split _ (is_plain c.args.separator) c.args.tokens.now c.split.ensures.rest c.split.ensures.done c.split.ensures.closure (λ x b q k. search rules))
+    (YieldsList-from_slice_split _ (is_plain c.args.separator) c.args.tokens.now c.split.ensures.rest
+    c.split.ensures.done c.split.ensures.closure (λ x b q k. search rules))

@@ -5,7 +5,8 @@ use Rattle.ldap_dn.proofs.keying.put_number.Goals as goal
 
 pub loop-left-preserved : goal.loop-left-preserved
 loop-left-preserved c = (
-  digit_more c.loop-left.left c.loop-left.out.items c.push.new.self.items c.push-in-loop-left.new.self.items _ c.loop-left-test.true
+  digit_more c.loop-left.left c.loop-left.out.items c.push.new.self.items c.push-in-loop-left.new.self.items _
+      c.loop-left-test.true
       c.in_ok-push.ensures.items c.in_ok-push-2.ensures.items c.loop-left.invariant.0,
   grind (arith, common_steps),
 )

@@ -6,4 +6,5 @@ ok_err : {A B : Type 0} {x : A} {y : B} → Ok x ≡ Err y → ⊥
 ok_err e = cc
 
 pub returns-in-Ok-clause-found : goal.returns-in-Ok-clause-found
-returns-in-Ok-clause-found c = meant_found _ _ _ (λ none. ok_err (sym c.in-Ok.is ∙ c.key.ensures.not_in_syntax.1 none)) c.in-Ok.ensures.key
+returns-in-Ok-clause-found c = meant_found _ _ _ (λ none. ok_err (sym c.in-Ok.is ∙ c.key.ensures.not_in_syntax.1
+    none)) c.in-Ok.ensures.key

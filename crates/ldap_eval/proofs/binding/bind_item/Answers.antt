@@ -8,11 +8,13 @@ use Rattle.ldap_eval.proofs.binding.bind_item.Goals as goal
 pub returns-clause-value : goal.returns-clause-value
 returns-clause-value c =
     IfOk-weaker c.bind_on_type.result _ _
-    (λ b h. item_bound c.args.schema.now c.args.description.now (item_of c.args.asked) c.in-Some.type_id b (sym c.find.ensures ∙ c.in-Some.is) h)
+    (λ b h. item_bound c.args.schema.now c.args.description.now (item_of c.args.asked) c.in-Some.type_id b
+    (sym c.find.ensures ∙ c.in-Some.is) h)
     c.bind_on_type.ensures.value
 
 pub returns-clause-parts : goal.returns-clause-parts
 returns-clause-parts c =
     IfOk-weaker c.bind_on_type.result _ _
-    (λ b h. item_for c.args.schema.now c.args.description.now (item_of c.args.asked) c.in-Some.type_id b (sym c.find.ensures ∙ c.in-Some.is) h)
+    (λ b h. item_for c.args.schema.now c.args.description.now (item_of c.args.asked) c.in-Some.type_id b
+    (sym c.find.ensures ∙ c.in-Some.is) h)
     c.bind_on_type.ensures.parts

@@ -7,7 +7,8 @@ use Rattle.ldap_eval.proofs.binding.bind_on_type.Goals as goal
 pub returns-clause-value : goal.returns-clause-value
 returns-clause-value c = λ lt n e k.
     leaves_item c.args.schema.now (item_of c.args.asked) c.args.type_id c.in_ok-leaves.field-0
-    c.tests_are_items.ensures lt (sym c.in_ok-is_answerable.ensures ∙ c.if-not-branch.false) c.in_ok-leaves.ensures n e k
+    c.tests_are_items.ensures lt (sym c.in_ok-is_answerable.ensures ∙ c.if-not-branch.false) c.in_ok-leaves.ensures n
+    e k
 
 pub returns-clause-parts : goal.returns-clause-parts
 returns-clause-parts c =
@@ -16,8 +17,10 @@ returns-clause-parts c =
 
 pub returns-then-not-branch-clause-value : goal.returns-then-not-branch-clause-value
 returns-then-not-branch-clause-value c = λ lt n e k.
-    unanswered_item c.args.schema.now (item_of c.args.asked) c.args.type_id (sym c.in_ok-is_answerable.ensures ∙ c.if-not-branch.true) n e
+    unanswered_item c.args.schema.now (item_of c.args.asked) c.args.type_id (sym c.in_ok-is_answerable.ensures
+    ∙ c.if-not-branch.true) n e
 
 pub returns-then-not-branch-clause-parts : goal.returns-then-not-branch-clause-parts
 returns-then-not-branch-clause-parts c =
-    unanswered_on c.args.schema.now (item_of c.args.asked) c.args.type_id (sym c.in_ok-is_answerable.ensures ∙ c.if-not-branch.true)
+    unanswered_on c.args.schema.now (item_of c.args.asked) c.args.type_id (sym c.in_ok-is_answerable.ensures
+    ∙ c.if-not-branch.true)

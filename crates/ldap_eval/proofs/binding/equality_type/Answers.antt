@@ -18,4 +18,5 @@ returns-in-Own-clause-none c = λ e.
     let s = c.args.schema.now in
     let x = extensible_view c.args.asked.now in
     let asked = c.args.asked_type.now in
-    subst (λ (h : How). is_equality_item s x (Some h) (Some asked) ≡ false) (sym c.in-Own.is) (own_none s x asked (sym c.own_type.ensures ∙ e))
+    subst (λ (h : How). is_equality_item s x (Some h) (Some asked) ≡ false) (sym c.in-Own.is)
+    (own_none s x asked (sym c.own_type.ensures ∙ e))

@@ -14,16 +14,20 @@ pub loop-number-preserved : goal.loop-number-preserved
 loop-number-preserved c =
     let s = c.args.schema.now in
     let item = item_of c.args.asked in
-    let lt : c.loop-number.number < length s.types = subst (λ (n : ℕ). c.loop-number.number < n) c.count_of_types-number-end.ensures c.loop-number-test.true in
+    let lt : c.loop-number.number < length s.types = subst (λ (n : ℕ). c.loop-number.number < n)
+    c.count_of_types-number-end.ensures c.loop-number-test.true in
     elim c.if-is_under.branch [
       | then-is_under+in_ok-test+in_ok-push w ↦
-          leaf_more s item c.args.type_id c.loop-number.number c.loop-number.leaves.items c.if-is_under.leaves.items _ _ lt
+          leaf_more s item c.args.type_id c.loop-number.number c.loop-number.leaves.items c.if-is_under.leaves.items _
+          _ lt
           (w.if-is_under.ensures.table ∙ ap (λ (n : ℕ). is_under s n c.args.type_id) c.new-below.ensures)
-          (ap₂ (λ (n : ℕ) (x : Test). bound.Leaf (record { type_id = n; test = x })) c.new-below.ensures (w.in_ok-test.ensures ∙ ap (test_for s item) c.new-below.ensures))
+          (ap₂ (λ (n : ℕ) (x : Test). bound.Leaf (record { type_id = n; test = x })) c.new-below.ensures
+          (w.in_ok-test.ensures ∙ ap (test_for s item) c.new-below.ensures))
           (ap (λ (v : Vec BoundFilter Global). v.items) w.leaves-is ∙ w.in_ok-push.ensures.items)
           c.loop-number.invariant
       | else-is_under w ↦
-          ap (λ (v : Vec BoundFilter Global). v.items ++ leaves_from s item c.args.type_id (drop (c.loop-number.number + 1) s.types) (c.loop-number.number + 1)) w.leaves-is
+          ap (λ (v : Vec BoundFilter Global). v.items ++ leaves_from s item c.args.type_id
+          (drop (c.loop-number.number + 1) s.types) (c.loop-number.number + 1)) w.leaves-is
           ∙ leaf_skipped s item c.args.type_id c.loop-number.number c.loop-number.leaves.items _ lt
           (w.if-is_under.ensures.table ∙ ap (λ (n : ℕ). is_under s n c.args.type_id) c.new-below.ensures)
           c.loop-number.invariant

@@ -17,16 +17,20 @@ loop-number-preserved c =
     let a = c.args.item.now.assertion.now in
     let dn = c.args.in_name in
     let all = c.args.matches.now.items ++ matches_for s h asked a dn in
-    let lt : c.loop-number.number < length s.types = subst (λ (n : ℕ). c.loop-number.number < n) c.count_of_types-number-end.ensures c.loop-number-test.true in
+    let lt : c.loop-number.number < length s.types = subst (λ (n : ℕ). c.loop-number.number < n)
+    c.count_of_types-number-end.ensures c.loop-number-test.true in
     elim c.if-is_looked_at.branch [
       | then-is_looked_at+in_ok-test+in_ok-push w ↦
-          match_more s h asked a dn c.loop-number.number c.loop-number.matches.items c.if-is_looked_at.matches.items all _ lt
+          match_more s h asked a dn c.loop-number.number c.loop-number.matches.items c.if-is_looked_at.matches.items
+          all _ lt
           (w.if-is_looked_at.ensures ∙ ap (is_looked_at s h asked) c.new-type_id.ensures)
-          (ap₂ (λ (n : ℕ) (x : MatchTest). bound.Match (record { type_id = n; test = x; in_name = dn })) c.new-type_id.ensures (w.in_ok-test.ensures ∙ ap (match_for s h a) c.new-type_id.ensures))
+          (ap₂ (λ (n : ℕ) (x : MatchTest). bound.Match (record { type_id = n; test = x; in_name = dn }))
+          c.new-type_id.ensures (w.in_ok-test.ensures ∙ ap (match_for s h a) c.new-type_id.ensures))
           (ap (λ (v : Vec BoundFilter Global). v.items) w.matches-is ∙ w.in_ok-push.ensures.items)
           c.loop-number.invariant
       | else-is_looked_at w ↦
-          ap (λ (v : Vec BoundFilter Global). v.items ++ matches_from s h asked a dn (drop (c.loop-number.number + 1) s.types) (c.loop-number.number + 1)) w.matches-is
+          ap (λ (v : Vec BoundFilter Global). v.items ++ matches_from s h asked a dn (drop (c.loop-number.number + 1)
+          s.types) (c.loop-number.number + 1)) w.matches-is
           ∙ match_skipped s h asked a dn c.loop-number.number c.loop-number.matches.items all lt
           (w.if-is_looked_at.ensures ∙ ap (is_looked_at s h asked) c.new-type_id.ensures)
           c.loop-number.invariant

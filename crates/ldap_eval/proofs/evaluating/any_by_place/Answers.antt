@@ -12,14 +12,17 @@ pub loop-at-preserved : goal.loop-at-preserved
 loop-at-preserved g c =
     let ns = g.N.NamePairs.named c.args.name.now c.args.number in
     let f = match_on_name_pair c.args.matching.now in
-    let lt : c.loop-at.at < length ns = subst (λ (n : ℕ). c.loop-at.at < n) c.count-at-end.ensures c.loop-at-test.true in
+    let lt : c.loop-at.at < length ns = subst (λ (n : ℕ). c.loop-at.at < n) c.count-at-end.ensures c.loop-at-test.true
+    in
     ap (λ (k : ℕ). truth_or c.or-truth.result (disjunction (map f (pairs_of (drop k ns))))) (add-one c.loop-at.at)
-    ∙ name_step f ns c.loop-at.at c.loop-at.truth c.or-truth.result c.in_name_at.result _ lt c.in_name_at.ensures c.or-truth.ensures c.loop-at.invariant
+    ∙ name_step f ns c.loop-at.at c.loop-at.truth c.or-truth.result c.in_name_at.result _ lt c.in_name_at.ensures
+    c.or-truth.ensures c.loop-at.invariant
 
 pub returns : goal.returns
 returns g c =
     let ns = g.N.NamePairs.named c.args.name.now c.args.number in
     let f = match_on_name_pair c.args.matching.now in
     let past : length ns ≤ c.loop-at.at = omega (arith, c.loop-at-test.false, c.count-at-end.ensures) in
-    sym (ap (λ (xs : List RdnModel). truth_or c.loop-at.truth (disjunction (map f (pairs_of xs)))) (drop_all c.loop-at.at ns past) ∙ or_false c.loop-at.truth)
+    sym (ap (λ (xs : List RdnModel). truth_or c.loop-at.truth (disjunction (map f (pairs_of xs))))
+    (drop_all c.loop-at.at ns past) ∙ or_false c.loop-at.truth)
     ∙ c.loop-at.invariant

@@ -6,5 +6,6 @@ use Rattle.ldap_eval.proofs.evaluating.any_by_place.Given as goal
 
 abbrev pub invariant-loop-at : goal.invariant-loop-at
 invariant-loop-at g l =
-    truth_or l.truth (disjunction (map (match_on_name_pair l.matching) (pairs_of (drop l.at (g.N.NamePairs.named l.name l.number)))))
+    truth_or l.truth (disjunction (map (match_on_name_pair l.matching)
+    (pairs_of (drop l.at (g.N.NamePairs.named l.name l.number)))))
     ≡ disjunction (map (match_on_name_pair l.matching) (pairs_of (g.N.NamePairs.named l.name l.number)))

@@ -9,5 +9,6 @@ use Rattle.ldap_eval.proofs.evaluating.any_in_name.Goals as goal
 pub loop-above-preserved : goal.loop-above-preserved
 loop-above-preserved g c =
     let named = g.N.NamePairs.named c.args.name.now in
-    name_up (match_on_name_pair c.args.matching.now) (named c.loop-above.number) (named c.in-Some.above) c.in-Some.rdn.now c.loop-above.truth c.or-truth.result c.any_in_rdn.result _
+    name_up (match_on_name_pair c.args.matching.now) (named c.loop-above.number) (named c.in-Some.above)
+    c.in-Some.rdn.now c.loop-above.truth c.or-truth.result c.any_in_rdn.result _
     c.in-Some.ensures c.any_in_rdn.ensures c.or-truth.ensures c.loop-above.invariant

@@ -6,7 +6,8 @@ use Rattle.ldap_eval.proofs.evaluating.any_in_name.Given as goal
 
 abbrev pub invariant-loop-above : goal.invariant-loop-above
 invariant-loop-above g l =
-    truth_or l.truth (disjunction (map (match_on_name_pair l.matching) (pairs_of (g.N.NamePairs.named l.name l.number))))
+    truth_or l.truth (disjunction (map (match_on_name_pair l.matching)
+    (pairs_of (g.N.NamePairs.named l.name l.number))))
     ≡ disjunction (map (match_on_name_pair l.matching) (pairs_of (g.N.NamePairs.name l.name)))
 
 abbrev pub decreases-loop-above : goal.decreases-loop-above

@@ -4,4 +4,6 @@ use Rattle.ldap_eval.specs.Bound.{match_on}
 use Rattle.ldap_eval.proofs.evaluating.any_match.Given as goal
 
 abbrev pub invariant-loop-attribute : goal.invariant-loop-attribute
-invariant-loop-attribute l = truth_or l.truth (disjunction (map (match_on l.matching) (drop l.attribute-index l.attributes))) ≡ disjunction (map (match_on l.matching) l.attributes)
+invariant-loop-attribute l = truth_or l.truth
+    (disjunction (map (match_on l.matching) (drop l.attribute-index l.attributes))) ≡
+    disjunction (map (match_on l.matching) l.attributes)

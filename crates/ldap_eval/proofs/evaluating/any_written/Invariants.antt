@@ -7,5 +7,6 @@ use Rattle.ldap_eval.proofs.evaluating.any_written.Given as goal
 
 abbrev pub invariant-loop-one : goal.invariant-loop-one
 invariant-loop-one l =
-    truth_or l.truth (disjunction (map (λ (v : TypeAndValue). match_on_name_pair l.matching (pair_in l.rdn.keys v)) (drop l.one-index l.written)))
+    truth_or l.truth (disjunction (map (λ (v : TypeAndValue). match_on_name_pair l.matching (pair_in l.rdn.keys v))
+    (drop l.one-index l.written)))
     ≡ disjunction (map (λ (v : TypeAndValue). match_on_name_pair l.matching (pair_in l.rdn.keys v)) l.written)

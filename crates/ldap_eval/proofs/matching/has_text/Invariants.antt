@@ -7,5 +7,6 @@ use Rattle.ldap_eval.proofs.matching.has_text.Given as goal
 abbrev pub invariant-loop-value : goal.invariant-loop-value
 invariant-loop-value l = record {
   left : l.rest ≡ map form_of (drop l.value-index l.values);
-  none : list_any (is_text_met l.rule l.asserted.less l.asserted.key) (drop l.value-index l.values) ≡ list_any (is_text_met l.rule l.asserted.less l.asserted.key) l.values;
+  none : list_any (is_text_met l.rule l.asserted.less l.asserted.key) (drop l.value-index l.values) ≡
+      list_any (is_text_met l.rule l.asserted.less l.asserted.key) l.values;
 }

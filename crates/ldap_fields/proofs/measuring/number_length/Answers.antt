@@ -9,4 +9,5 @@ use Rattle.ldap_fields.proofs.measuring.number_length.Goals as goal
 pub returns : goal.returns
 returns c = λ first.
     let back : to_z w64 (of_z w64 c.from.result) ≡ c.from.result = omega (arith, ints) in
-    c.integer_length.ensures first ∙ ap (λ (z : ℤ). length (element_bytes first (integer_octets z))) (back ∙ c.from.ensures)
+    c.integer_length.ensures first ∙ ap (λ (z : ℤ). length (element_bytes first (integer_octets z))) (back
+    ∙ c.from.ensures)

@@ -6,5 +6,8 @@ use Rattle.ldap_fields.proofs.measuring.values_length.Goals as goal
 
 pub loop-value-preserved : goal.loop-value-preserved
 loop-value-preserved c =
-    row_measure (element_bytes 4) (λ v. v.items) c.args.values.now c.loop-value.value-index c.value-item.result 4294967296 c.loop-value.total c.element_length.result c.add_lengths-total.result c.loop-value-test.true c.value-item.is c.loop-value.invariant
-    (c.element_length.ensures 4 c.value-item.result.items (ap (λ (bs : List ℕ). min (length bs) 4294967296) c.as_slice.ensures.value)) c.add_lengths-total.ensures
+    row_measure (element_bytes 4) (λ v. v.items) c.args.values.now c.loop-value.value-index c.value-item.result
+    4294967296 c.loop-value.total c.element_length.result c.add_lengths-total.result c.loop-value-test.true
+    c.value-item.is c.loop-value.invariant
+    (c.element_length.ensures 4 c.value-item.result.items (ap (λ (bs : List ℕ). min (length bs) 4294967296)
+    c.as_slice.ensures.value)) c.add_lengths-total.ensures

@@ -6,7 +6,8 @@ use Rattle.ldap_fields.proofs.RowLemmas.{SoFar}
 use Rattle.ldap_fields.proofs.rows.texts.Given as goal
 
 abbrev pub invariant-loop-rest : goal.invariant-loop-rest
-invariant-loop-rest l = SoFar (λ t octets rest. HasText octets 4 t rest) l.content (map string_bytes l.texts.items) l.rest
+invariant-loop-rest l = SoFar (λ t octets rest. HasText octets 4 t rest) l.content (map string_bytes l.texts.items)
+    l.rest
 
 abbrev pub decreases-loop-rest : goal.decreases-loop-rest
 decreases-loop-rest l = length l.rest

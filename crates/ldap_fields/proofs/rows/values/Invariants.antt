@@ -5,7 +5,8 @@ use Rattle.ldap_fields.proofs.RowLemmas.{SoFar}
 use Rattle.ldap_fields.proofs.rows.values.Given as goal
 
 abbrev pub invariant-loop-rest : goal.invariant-loop-rest
-invariant-loop-rest l = SoFar (λ v octets rest. HasField octets 4 v rest) l.content (map (λ v. v.items) l.values.items) l.rest
+invariant-loop-rest l = SoFar (λ v octets rest. HasField octets 4 v rest) l.content
+    (map (λ v. v.items) l.values.items) l.rest
 
 abbrev pub decreases-loop-rest : goal.decreases-loop-rest
 decreases-loop-rest l = length l.rest

@@ -6,4 +6,5 @@ use Rattle.ldap_fields.specs.Rows.{row_bytes}
 use Rattle.ldap_fields.proofs.writing.put_texts.Given as goal
 
 abbrev pub invariant-loop-text : goal.invariant-loop-text
-invariant-loop-text l = l.out.items ≡ l.initial.out.items ++ row_bytes (element_bytes 4) (map string_bytes (take l.text-index l.texts))
+invariant-loop-text l = l.out.items ≡ l.initial.out.items ++ row_bytes (element_bytes 4)
+    (map string_bytes (take l.text-index l.texts))

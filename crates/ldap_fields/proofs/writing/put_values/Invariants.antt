@@ -5,4 +5,5 @@ use Rattle.ldap_fields.specs.Rows.{row_bytes}
 use Rattle.ldap_fields.proofs.writing.put_values.Given as goal
 
 abbrev pub invariant-loop-value : goal.invariant-loop-value
-invariant-loop-value l = l.out.items ≡ l.initial.out.items ++ row_bytes (element_bytes 4) (map (λ v. v.items) (take l.value-index l.values))
+invariant-loop-value l = l.out.items ≡ l.initial.out.items ++ row_bytes (element_bytes 4)
+    (map (λ v. v.items) (take l.value-index l.values))

@@ -6,10 +6,16 @@ use Rattle.ldap_framer.proofs.Frames.{bad_frame}
 use Rattle.ldap_framer.proofs.cutting.frame_of.Goals as goal
 
 pub returns-in-Err-NotAMessage-clause-found : goal.returns-in-Err-NotAMessage-clause-found
-returns-in-Err-NotAMessage-clause-found c = inr (bad_frame NotAMessage c.args.octets.now c.args.size c.requires.within c.requires.small c.requires.is_frame (subst (λ f. IsFault f (take c.args.size c.args.octets.now)) c.in-Err-NotAMessage.field-0-is c.in-Err-NotAMessage.ensures.fault))
+returns-in-Err-NotAMessage-clause-found c = inr (bad_frame NotAMessage c.args.octets.now c.args.size c.requires.within
+    c.requires.small c.requires.is_frame (subst (λ f. IsFault f (take c.args.size c.args.octets.now))
+    c.in-Err-NotAMessage.field-0-is c.in-Err-NotAMessage.ensures.fault))
 
 pub returns-in-Err-TooDeep-clause-found : goal.returns-in-Err-TooDeep-clause-found
-returns-in-Err-TooDeep-clause-found c = bad_frame TooDeep c.args.octets.now c.args.size c.requires.within c.requires.small c.requires.is_frame (subst (λ f. IsFault f (take c.args.size c.args.octets.now)) c.in-Err-TooDeep.field-0-is c.in-Err-TooDeep.ensures.fault)
+returns-in-Err-TooDeep-clause-found c = bad_frame TooDeep c.args.octets.now c.args.size c.requires.within
+    c.requires.small c.requires.is_frame (subst (λ f. IsFault f (take c.args.size c.args.octets.now))
+    c.in-Err-TooDeep.field-0-is c.in-Err-TooDeep.ensures.fault)
 
 pub returns-in-Err-TooManyItems-clause-found : goal.returns-in-Err-TooManyItems-clause-found
-returns-in-Err-TooManyItems-clause-found c = bad_frame TooManyItems c.args.octets.now c.args.size c.requires.within c.requires.small c.requires.is_frame (subst (λ f. IsFault f (take c.args.size c.args.octets.now)) c.in-Err-TooManyItems.field-0-is c.in-Err-TooManyItems.ensures.fault)
+returns-in-Err-TooManyItems-clause-found c = bad_frame TooManyItems c.args.octets.now c.args.size c.requires.within
+    c.requires.small c.requires.is_frame (subst (λ f. IsFault f (take c.args.size c.args.octets.now))
+    c.in-Err-TooManyItems.field-0-is c.in-Err-TooManyItems.ensures.fault)

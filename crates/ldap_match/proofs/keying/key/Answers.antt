@@ -10,7 +10,8 @@ returns-in_default c =
     let keyed = plain_key c.args.schema.now c.args.rule c.args.value.now c.in_default.not-Name in
     record {
       key = IfOk-weaker c.key.result _ _ (λ k h. keyed ∙ h) c.key.ensures.key;
-      meant = meant_at_ok c.key.result (meaning c.args.schema.now c.args.rule c.args.value.now) (λ none. c.key.ensures.not_in_syntax.1 (sym means ∙ none));
+      meant = meant_at_ok c.key.result (meaning c.args.schema.now c.args.rule c.args.value.now)
+          (λ none. c.key.ensures.not_in_syntax.1 (sym means ∙ none));
       not_in_syntax = λ e. means ∙ c.key.ensures.not_in_syntax.0 e;
       at_once = λ _ none. c.key.ensures.not_in_syntax.1 (sym means ∙ none);
     }

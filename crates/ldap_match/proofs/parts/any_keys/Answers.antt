@@ -5,4 +5,5 @@ use Rattle.ldap_match.proofs.parts.any_keys.Goals as goal
 
 pub returns-clause-key : goal.returns-clause-key
 returns-clause-key c =
-    all_keys _ _ _ _ c.loop-part.invariant (ap (map (λ x. x.items)) (drop_all c.loop-part.part-index c.args.any.now (omega (arith, c.loop-part-test.false))))
+    all_keys _ _ _ _ c.loop-part.invariant (ap (map (λ x. x.items)) (drop_all c.loop-part.part-index c.args.any.now
+    (omega (arith, c.loop-part-test.false))))

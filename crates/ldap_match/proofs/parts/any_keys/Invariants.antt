@@ -5,4 +5,5 @@ use Rattle.ldap_match.proofs.Keys.{KeysSoFar}
 use Rattle.ldap_match.proofs.parts.any_keys.Given as goal
 
 abbrev pub invariant-loop-part : goal.invariant-loop-part
-invariant-loop-part l = KeysSoFar (part_key_at l.rule Any) (map (λ x. x.items) l.any) l.keys.items (map (λ x. x.items) (drop l.part-index l.any))
+invariant-loop-part l = KeysSoFar (part_key_at l.rule Any) (map (λ x. x.items) l.any) l.keys.items
+    (map (λ x. x.items) (drop l.part-index l.any))

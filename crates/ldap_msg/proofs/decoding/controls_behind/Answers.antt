@@ -16,6 +16,7 @@ pub returns-clause-fault : goal.returns-clause-fault
 returns-clause-fault c =
     IfErr-weaker c.controls_of.result
     (λ e. IsPlainFault e ((row : List ControlValue) × AreControls row c.args.octets.now))
-    (λ e. IsPlainFault e (IsIdFor (operation_view c.args.op.now) c.args.id × ((row : List ControlValue) × AreControls row c.args.octets.now)))
+    (λ e. IsPlainFault e (IsIdFor (operation_view c.args.op.now) c.args.id
+    × ((row : List ControlValue) × AreControls row c.args.octets.now)))
     (λ e fault. plain_weaker e _ _ (λ q. q.1) fault)
     c.controls_of.ensures.fault

@@ -7,15 +7,20 @@ use Rattle.ldap_msg.proofs.decoding.decode.Goals as goal
 
 pub returns-then-not-is_empty-clause-only : goal.returns-then-not-is_empty-clause-only
 returns-then-not-is_empty-clause-only c = λ m is within size.
-    absurd (message_whole c.args.octets.now c.in_ok-content.content.now c.in_ok-content.rest.now c.in_ok-content.ensures.found (some_left c.is_empty.result _ c.is_empty.ensures c.if-not-is_empty.true) (m, is))
+    absurd (message_whole c.args.octets.now c.in_ok-content.content.now c.in_ok-content.rest.now
+    c.in_ok-content.ensures.found (some_left c.is_empty.result _ c.is_empty.ensures c.if-not-is_empty.true) (m, is))
 
 pub returns-then-not-is_empty-clause-fault : goal.returns-then-not-is_empty-clause-fault
 returns-then-not-is_empty-clause-fault c =
-    message_whole c.args.octets.now c.in_ok-content.content.now c.in_ok-content.rest.now c.in_ok-content.ensures.found (some_left c.is_empty.result _ c.is_empty.ensures c.if-not-is_empty.true)
+    message_whole c.args.octets.now c.in_ok-content.content.now c.in_ok-content.rest.now c.in_ok-content.ensures.found
+    (some_left c.is_empty.result _ c.is_empty.ensures c.if-not-is_empty.true)
 
 pub returns-clause-only : goal.returns-clause-only
 returns-clause-only c = λ m is within size.
-    only_whole view c.message_of.result c.args.octets.now c.in_ok-content.content.now c.in_ok-content.rest.now c.in_ok-content.ensures.found c.message_of.ensures.found c.message_of.ensures.fault m is within
+    only_whole view c.message_of.result c.args.octets.now c.in_ok-content.content.now c.in_ok-content.rest.now
+    c.in_ok-content.ensures.found c.message_of.ensures.found c.message_of.ensures.fault m is within
 
 pub returns-clause-fault : goal.returns-clause-fault
-returns-clause-fault c = whole_faults c.message_of.result c.args.octets.now c.in_ok-content.content.now c.in_ok-content.rest.now c.in_ok-content.ensures.found (none_left c.is_empty.result _ c.is_empty.ensures c.if-not-is_empty.false) c.message_of.ensures.fault
+returns-clause-fault c = whole_faults c.message_of.result c.args.octets.now c.in_ok-content.content.now
+    c.in_ok-content.rest.now c.in_ok-content.ensures.found (none_left c.is_empty.result _ c.is_empty.ensures
+    c.if-not-is_empty.false) c.message_of.ensures.fault

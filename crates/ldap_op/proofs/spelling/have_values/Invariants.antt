@@ -6,4 +6,5 @@ use Rattle.ldap_updates.specs.Grammar.{HasAValue}
 use Rattle.ldap_op.proofs.spelling.have_values.Given as goal
 
 abbrev pub invariant-loop-attribute : goal.invariant-loop-attribute
-invariant-loop-attribute l = AllByRecursion (λ x. IsUtf8 x.description × HasAValue x) (map attribute_view (take l.attribute-index l.attributes))
+invariant-loop-attribute l = AllByRecursion (λ x. IsUtf8 x.description × HasAValue x)
+    (map attribute_view (take l.attribute-index l.attributes))

@@ -5,4 +5,5 @@ use Rattle.ldap_updates.specs.View.{change_view}
 use Rattle.ldap_op.proofs.spelling.see_changes.Given as goal
 
 abbrev pub invariant-loop-change : goal.invariant-loop-change
-invariant-loop-change l = AllByRecursion (λ k. IsUtf8 k.modification.description) (map change_view (take l.change-index l.changes))
+invariant-loop-change l = AllByRecursion (λ k. IsUtf8 k.modification.description)
+    (map change_view (take l.change-index l.changes))

@@ -8,4 +8,6 @@ use Rattle.ldap_parts.proofs.decoding_control.control_field.Goals as goal
 pub returns-in_err-control-clause-fault : goal.returns-in_err-control-clause-fault
 returns-in_err-control-clause-fault c =
     let p = err_from_is_err_and c.from_residual-in_err-control.result c.from_residual-in_err-control.ensures.1 in
-    rw (p.1, p.2) (plain_weaker c.in_err-control.field-0.0 _ _ (part_inside IsControl c.args.octets.now c.in_ok-content.content.now c.in_ok-content.rest.now 48 c.in_ok-content.ensures.found) c.in_err-control.ensures.fault)
+    rw (p.1, p.2) (plain_weaker c.in_err-control.field-0.0 _ _ (part_inside IsControl c.args.octets.now
+    c.in_ok-content.content.now c.in_ok-content.rest.now 48 c.in_ok-content.ensures.found)
+    c.in_err-control.ensures.fault)

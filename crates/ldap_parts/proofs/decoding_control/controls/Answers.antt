@@ -10,13 +10,19 @@ use Rattle.ldap_parts.proofs.decoding_control.controls.Goals as goal
 pub returns-in_err-control-clause-fault : goal.returns-in_err-control-clause-fault
 returns-in_err-control-clause-fault c =
     let p = err_from_is_err_and c.from_residual.result c.from_residual.ensures.1 in
-    rw (p.1, p.2) (fails HasControl c.in_err-control.field-0.0 c.args.content.now _ c.loop-rest.rest.now c.loop-rest.invariant (some_left c.is_empty.result _ c.is_empty.ensures c.loop-rest-test.true) c.in_err-control.ensures.fault)
+    rw (p.1, p.2) (fails HasControl c.in_err-control.field-0.0 c.args.content.now _ c.loop-rest.rest.now
+    c.loop-rest.invariant (some_left c.is_empty.result _ c.is_empty.ensures c.loop-rest-test.true)
+    c.in_err-control.ensures.fault)
 
 pub loop-rest-preserved : goal.loop-rest-preserved
-loop-rest-preserved c = goes_on_map control_view HasControl control_unique control_some c.args.content.now c.loop-rest.controls.items c.push.new.self.items c.loop-rest.rest.now c.in_ok-control.control c.in_ok-control.after.now c.loop-rest.invariant c.in_ok-push.ensures.items c.in_ok-control.ensures.found
+loop-rest-preserved c = goes_on_map control_view HasControl control_unique control_some c.args.content.now
+    c.loop-rest.controls.items c.push.new.self.items c.loop-rest.rest.now c.in_ok-control.control
+    c.in_ok-control.after.now c.loop-rest.invariant c.in_ok-push.ensures.items c.in_ok-control.ensures.found
 
 pub loop-rest-smaller : goal.loop-rest-smaller
-loop-rest-smaller c = field_shorter c.loop-rest.rest.now c.in_ok-control.ensures.found.content c.in_ok-control.after.now 48 c.in_ok-control.ensures.found.field
+loop-rest-smaller c = field_shorter c.loop-rest.rest.now c.in_ok-control.ensures.found.content
+    c.in_ok-control.after.now 48 c.in_ok-control.ensures.found.field
 
 pub returns-clause-found : goal.returns-clause-found
-returns-clause-found c = ends HasControl c.args.content.now _ c.loop-rest.rest.now c.loop-rest.invariant (none_left c.is_empty.result _ c.is_empty.ensures c.loop-rest-test.false)
+returns-clause-found c = ends HasControl c.args.content.now _ c.loop-rest.rest.now c.loop-rest.invariant
+    (none_left c.is_empty.result _ c.is_empty.ensures c.loop-rest-test.false)

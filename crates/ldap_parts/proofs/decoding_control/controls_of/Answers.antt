@@ -7,4 +7,5 @@ use Rattle.ldap_parts.proofs.decoding_control.controls_of.Goals as goal
 pub returns-in_err-elements-clause-fault : goal.returns-in_err-elements-clause-fault
 returns-in_err-elements-clause-fault c =
     let p = err_from_is_err_and c.from_residual-in_err-elements.result c.from_residual-in_err-elements.ensures.1 in
-    rw (p.1, p.2) (plain_weaker c.in_err-elements.field-0.0 _ _ (controls_end c.args.octets.now c.in_ok-controls.rest.now _ c.in_ok-controls.ensures.found) c.in_err-elements.ensures.fault)
+    rw (p.1, p.2) (plain_weaker c.in_err-elements.field-0.0 _ _ (controls_end c.args.octets.now
+    c.in_ok-controls.rest.now _ c.in_ok-controls.ensures.found) c.in_err-elements.ensures.fault)

@@ -7,4 +7,5 @@ use Rattle.ldap_parts.proofs.decoding_result.result_field.Goals as goal
 pub returns-in_err-referral-clause-fault : goal.returns-in_err-referral-clause-fault
 returns-in_err-referral-clause-fault c =
     let p = err_from_is_err_and c.from_residual-in_err-referral.result c.from_residual-in_err-referral.ensures.1 in
-    rw (p.1, p.2) (plain_weaker c.in_err-referral.field-0.0 _ _ (result_referral c.args.octets.now c.in_ok-code.rest.now _ _ c.in_ok-code.code c.in_ok-code.ensures.found) c.in_err-referral.ensures.fault)
+    rw (p.1, p.2) (plain_weaker c.in_err-referral.field-0.0 _ _ (result_referral c.args.octets.now
+    c.in_ok-code.rest.now _ _ c.in_ok-code.code c.in_ok-code.ensures.found) c.in_err-referral.ensures.fault)

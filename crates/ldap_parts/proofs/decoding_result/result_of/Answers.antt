@@ -7,4 +7,5 @@ use Rattle.ldap_parts.proofs.decoding_result.result_of.Goals as goal
 pub returns-in_err-elements-clause-fault : goal.returns-in_err-elements-clause-fault
 returns-in_err-elements-clause-fault c =
     let p = err_from_is_err_and c.from_residual-in_err-elements.result c.from_residual-in_err-elements.ensures.1 in
-    rw (p.1, p.2) (plain_weaker c.in_err-elements.field-0.0 _ _ (result_end c.args.content.now c.in_ok-ldap_result.rest.now _ c.in_ok-ldap_result.ensures.found) c.in_err-elements.ensures.fault)
+    rw (p.1, p.2) (plain_weaker c.in_err-elements.field-0.0 _ _ (result_end c.args.content.now
+    c.in_ok-ldap_result.rest.now _ c.in_ok-ldap_result.ensures.found) c.in_err-elements.ensures.fault)

@@ -5,4 +5,6 @@ use Rattle.ldap_parts.specs.Written.{attribute_bytes}
 use Rattle.ldap_parts.proofs.encoding_attribute.attributes_length.Given as goal
 
 abbrev pub invariant-loop-attribute : goal.invariant-loop-attribute
-invariant-loop-attribute g l = l.total ≡ min (length (row_bytes attribute_bytes (map g.A.AttributeParts.attribute (take l.attribute-index l.attributes)))) 4294967296
+invariant-loop-attribute g l = l.total ≡
+    min (length (row_bytes attribute_bytes (map g.A.AttributeParts.attribute (take l.attribute-index l.attributes))))
+    4294967296

@@ -9,7 +9,10 @@ pub returns : goal.returns
 returns g c =
     let a = g.A.AttributeParts.attribute c.args.attribute.now in
     let row = row_bytes (element_bytes 4) a.values in
-    two_measure (element_bytes 4 a.description) (element_bytes 49 row) c.element_length.result c.element_length-2.result 4294967296 c.add_lengths.result
-    (c.element_length.ensures 4 a.description (ap (λ (bs : List ℕ). min (length bs) 4294967296) (c.as_bytes-description.ensures.value ∙ c.description.ensures)))
-    (c.element_length-2.ensures 49 row (same_measure c.values_length-values.result row 4294967296 c.values_length-values.ensures))
+    two_measure (element_bytes 4 a.description) (element_bytes 49 row) c.element_length.result
+    c.element_length-2.result 4294967296 c.add_lengths.result
+    (c.element_length.ensures 4 a.description (ap (λ (bs : List ℕ). min (length bs) 4294967296)
+    (c.as_bytes-description.ensures.value ∙ c.description.ensures)))
+    (c.element_length-2.ensures 49 row (same_measure c.values_length-values.result row 4294967296
+    c.values_length-values.ensures))
     c.add_lengths.ensures

@@ -17,8 +17,12 @@ returns-in_err-write_head-clause-kept g c = kept_same _ _ c.in_err-write_head.en
 
 pub returns-clause-ok : goal.returns-clause-ok
 returns-clause-ok g c =
-    headed c.put_attributes.result c.args.out.now.items c.write_head.new.out.items c.put_attributes.new.out.items 48 c.attributes_length.result 4294967296 (row_bytes attribute_bytes (map g.A.AttributeParts.attribute c.args.attributes.now))
-    c.attributes_length.ensures (in_range _ _ _ _ c.in_ok-write_head.ensures.too_long) c.in_ok-write_head.ensures.ok c.put_attributes.ensures.ok
+    headed c.put_attributes.result c.args.out.now.items c.write_head.new.out.items c.put_attributes.new.out.items 48
+    c.attributes_length.result 4294967296 (row_bytes attribute_bytes (map g.A.AttributeParts.attribute
+    c.args.attributes.now))
+    c.attributes_length.ensures (in_range _ _ _ _ c.in_ok-write_head.ensures.too_long) c.in_ok-write_head.ensures.ok
+    c.put_attributes.ensures.ok
 
 pub returns-clause-kept : goal.returns-clause-kept
-returns-clause-kept g c = kept_more _ c.write_head.new.out.items _ (48 ∷ length_octets c.attributes_length.result) c.in_ok-write_head.ensures.ok c.put_attributes.ensures.kept
+returns-clause-kept g c = kept_more _ c.write_head.new.out.items _ (48 ∷ length_octets c.attributes_length.result)
+    c.in_ok-write_head.ensures.ok c.put_attributes.ensures.kept

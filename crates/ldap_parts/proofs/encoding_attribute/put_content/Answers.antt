@@ -12,7 +12,9 @@ returns-in_err-write-clause-too_long g c =
     let description = (g.A.AttributeParts.attribute c.args.attribute.now).description in
     let row = row_bytes (element_bytes 4) (g.A.AttributeParts.attribute c.args.attribute.now).values in
     let p = err_from_is_err_and c.from_residual.result c.from_residual.ensures.1 in
-    rw (p.1, p.2) (λ h. first_long (element_bytes 4 description) (element_bytes 49 row) 4294967296 (element_long 4 description 4294967296 (rw (c.as_bytes.ensures.value, c.description.ensures) at (c.in_err-write.ensures.too_long.0 h))))
+    rw (p.1, p.2) (λ h. first_long (element_bytes 4 description) (element_bytes 49 row) 4294967296
+    (element_long 4 description 4294967296 (rw (c.as_bytes.ensures.value, c.description.ensures) at
+    (c.in_err-write.ensures.too_long.0 h))))
 
 pub returns-in_err-write-clause-kept : goal.returns-in_err-write-clause-kept
 returns-in_err-write-clause-kept g c = kept_same _ _ c.in_err-write.ensures.err
@@ -21,14 +23,18 @@ pub returns-clause-ok : goal.returns-clause-ok
 returns-clause-ok g c =
     let description = (g.A.AttributeParts.attribute c.args.attribute.now).description in
     let row = row_bytes (element_bytes 4) (g.A.AttributeParts.attribute c.args.attribute.now).values in
-    two c.put_values.result c.args.out.now.items (element_bytes 4 description) (element_bytes 49 row) c.write.new.out.items c.put_values.new.out.items
+    two c.put_values.result c.args.out.now.items (element_bytes 4 description) (element_bytes 49 row)
+    c.write.new.out.items c.put_values.new.out.items
     (rw (c.as_bytes.ensures.value, c.description.ensures) at c.in_ok-write.ensures.ok) c.put_values.ensures.ok
 
 pub returns-clause-too_long : goal.returns-clause-too_long
 returns-clause-too_long g c = λ h.
     let description = (g.A.AttributeParts.attribute c.args.attribute.now).description in
     let row = row_bytes (element_bytes 4) (g.A.AttributeParts.attribute c.args.attribute.now).values in
-    second_long (element_bytes 4 description) (element_bytes 49 row) 4294967296 (element_long 49 row 4294967296 (c.put_values.ensures.too_long h))
+    second_long (element_bytes 4 description) (element_bytes 49 row) 4294967296 (element_long 49 row 4294967296
+    (c.put_values.ensures.too_long h))
 
 pub returns-clause-kept : goal.returns-clause-kept
-returns-clause-kept g c = kept_more _ c.write.new.out.items _ (element_bytes 4 (g.A.AttributeParts.attribute c.args.attribute.now).description) (rw (c.as_bytes.ensures.value, c.description.ensures) at c.in_ok-write.ensures.ok) c.put_values.ensures.kept
+returns-clause-kept g c = kept_more _ c.write.new.out.items _
+    (element_bytes 4 (g.A.AttributeParts.attribute c.args.attribute.now).description)
+    (rw (c.as_bytes.ensures.value, c.description.ensures) at c.in_ok-write.ensures.ok) c.put_values.ensures.kept

@@ -12,7 +12,10 @@ returns c =
     IfOk-weaker c.all_fall.result _ _
     (λ b e.
     e
-    ∙ in_line_by_rank (is_under_in c.args.classes.now) c.args.ranks.now (ranked_order c.args.classes.now c.args.ranks.now c.requires.known c.requires.ranking) c.args.named.now c.as_slice.result.now
-    (subst (λ (x : List ℕ). IsPermutation c.args.named.now x) (sym c.as_slice.ensures.value) c.in_ok-sorted.ensures.same)
-    (subst (λ (x : List ℕ). IsNonDecreasingBy (rank_in c.args.ranks.now) x) (sym c.as_slice.ensures.value) c.in_ok-sorted.ensures.rising))
+    ∙ in_line_by_rank (is_under_in c.args.classes.now) c.args.ranks.now (ranked_order c.args.classes.now
+    c.args.ranks.now c.requires.known c.requires.ranking) c.args.named.now c.as_slice.result.now
+    (subst (λ (x : List ℕ). IsPermutation c.args.named.now x) (sym c.as_slice.ensures.value)
+    c.in_ok-sorted.ensures.same)
+    (subst (λ (x : List ℕ). IsNonDecreasingBy (rank_in c.args.ranks.now) x) (sym c.as_slice.ensures.value)
+    c.in_ok-sorted.ensures.rising))
     c.all_fall.ensures

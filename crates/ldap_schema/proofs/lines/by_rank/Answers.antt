@@ -4,4 +4,5 @@ use Rattle.ldap_schema.specs.Lines.{rank_in}
 use Rattle.ldap_schema.proofs.lines.by_rank.Goals as goal
 
 pub returns-clause-rising : goal.returns-clause-rising
-returns-clause-rising c = IsNonDecreasingBy-from_sort_by_key (rank_in c.args.ranks.now) _ c.in_ok-sort_by_key.ensures.sorted (λ a r q k. search rules)
+returns-clause-rising c = IsNonDecreasingBy-from_sort_by_key (rank_in c.args.ranks.now) _
+    c.in_ok-sort_by_key.ensures.sorted (λ a r q k. search rules)

@@ -10,6 +10,7 @@ returns-in-len1-up c =
     IfOk-weaker c.lowest_among.result _ _
     (λ o e.
     e
-    ∙ lowest_by_rank (is_under_in c.args.classes.now) c.args.ranks.now (ranked_order c.args.classes.now c.args.ranks.now c.requires.known c.requires.ranking) c.args.named.now c.first-item.result
+    ∙ lowest_by_rank (is_under_in c.args.classes.now) c.args.ranks.now (ranked_order c.args.classes.now
+    c.args.ranks.now c.requires.known c.requires.ranking) c.args.named.now c.first-item.result
     c.greatest.result c.in-len1-up.len_at_least c.first-item.is c.greatest.ensures)
     c.lowest_among.ensures

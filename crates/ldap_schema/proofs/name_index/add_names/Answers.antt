@@ -10,5 +10,8 @@ use Rattle.ldap_schema.proofs.name_index.add_names.Goals as goal
 
 pub returns : goal.returns
 returns c q =
-    names_done (λ n. bytes_eq q (map to_ascii_lowercase (string_bytes n))) c.args.names.now _ (number_at c.loop-name.table q) _ c.args.number (drop_of_length-le c.args.names.now c.loop-name-test.false) (c.loop-name.invariant q)
-    ∙ ap (λ b. kept_or (number_at c.args.table.now q) b c.args.number) (sym (list_any-map (λ n. bytes_eq q (map to_ascii_lowercase n)) string_bytes c.args.names.now))
+    names_done (λ n. bytes_eq q (map to_ascii_lowercase (string_bytes n))) c.args.names.now _
+    (number_at c.loop-name.table q) _ c.args.number (drop_of_length-le c.args.names.now c.loop-name-test.false)
+    (c.loop-name.invariant q)
+    ∙ ap (λ b. kept_or (number_at c.args.table.now q) b c.args.number)
+    (sym (list_any-map (λ n. bytes_eq q (map to_ascii_lowercase n)) string_bytes c.args.names.now))

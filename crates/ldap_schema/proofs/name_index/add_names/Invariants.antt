@@ -9,5 +9,7 @@ use Rattle.ldap_schema.proofs.name_index.add_names.Given as goal
 
 abbrev pub invariant-loop-name : goal.invariant-loop-name
 invariant-loop-name l =
-    (q : List ℕ) → kept_or (number_at l.table q) (list_any (λ n. bytes_eq q (map to_ascii_lowercase (string_bytes n))) (drop l.name-index l.names)) l.number
-    ≡ kept_or (number_at l.initial.table q) (list_any (λ n. bytes_eq q (map to_ascii_lowercase (string_bytes n))) l.names) l.number
+    (q : List ℕ) → kept_or (number_at l.table q) (list_any (λ n. bytes_eq q (map to_ascii_lowercase (string_bytes n)))
+    (drop l.name-index l.names)) l.number
+    ≡ kept_or (number_at l.initial.table q) (list_any (λ n. bytes_eq q (map to_ascii_lowercase (string_bytes n)))
+    l.names) l.number

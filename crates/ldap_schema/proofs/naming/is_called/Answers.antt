@@ -7,4 +7,5 @@ use Rattle.ldap_schema.proofs.naming.is_called.Goals as goal
 
 pub returns-else-eq : goal.returns-else-eq
 returns-else-eq c =
-    or_false _ _ c.is_among.result (c.if-eq.ensures ∙ ap (bytes_eq c.args.name.now) c.as_bytes.ensures.value) (c.is_among.ensures ∙ sym (list_any-map (is_same_name c.args.name.now) string_bytes c.args.names.now))
+    or_false _ _ c.is_among.result (c.if-eq.ensures ∙ ap (bytes_eq c.args.name.now) c.as_bytes.ensures.value)
+    (c.is_among.ensures ∙ sym (list_any-map (is_same_name c.args.name.now) string_bytes c.args.names.now))

@@ -6,4 +6,5 @@ use Rattle.ldap_schema.proofs.pairs.is_each_in_line.Given as goal
 
 abbrev pub invariant-loop-class : goal.invariant-loop-class
 invariant-loop-class l =
-    list_all (λ a. list_all (is_either_under (is_under_in l.classes) a) l.named) (drop l.class-index l.named) ≡ are_all_in_line (is_under_in l.classes) l.named
+    list_all (λ a. list_all (is_either_under (is_under_in l.classes) a) l.named) (drop l.class-index l.named) ≡
+    are_all_in_line (is_under_in l.classes) l.named

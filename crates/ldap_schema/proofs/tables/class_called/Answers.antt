@@ -11,16 +11,23 @@ loop-number-init c = refl
 pub returns-then-is_called : goal.returns-then-is_called
 returns-then-is_called c =
     let p : ClassModel → Bool = λ (t : ClassModel). is_called c.args.name.now t.oid t.names in
-    let is : p c.index-classes-number.result ≡ true = sym (ap₂ (λ (o : List ℕ) (ns : List (List ℕ)). is_called c.args.name.now o ns) c.oid.ensures c.names.ensures) ∙ sym c.if-is_called.ensures in
-    ap Some c.new.ensures ∙ sym (found_here p c.args.classes.now c.loop-number.number c.index-classes-number.result c.loop-number-test.true c.index-classes-number.is is) ∙ c.loop-number.invariant
+    let is : p c.index-classes-number.result ≡ true =
+    sym (ap₂ (λ (o : List ℕ) (ns : List (List ℕ)). is_called c.args.name.now o ns) c.oid.ensures
+    c.names.ensures) ∙ sym c.if-is_called.ensures in
+    ap Some c.new.ensures ∙ sym (found_here p c.args.classes.now c.loop-number.number c.index-classes-number.result
+    c.loop-number-test.true c.index-classes-number.is is) ∙ c.loop-number.invariant
 
 pub loop-number-preserved : goal.loop-number-preserved
 loop-number-preserved c =
     let p : ClassModel → Bool = λ (t : ClassModel). is_called c.args.name.now t.oid t.names in
-    let is : p c.index-classes-number.result ≡ false = sym (ap₂ (λ (o : List ℕ) (ns : List (List ℕ)). is_called c.args.name.now o ns) c.oid.ensures c.names.ensures) ∙ sym c.if-is_called.ensures in
-    sym (found_later p c.args.classes.now c.loop-number.number c.index-classes-number.result c.loop-number-test.true c.index-classes-number.is is) ∙ c.loop-number.invariant
+    let is : p c.index-classes-number.result ≡ false =
+    sym (ap₂ (λ (o : List ℕ) (ns : List (List ℕ)). is_called c.args.name.now o ns) c.oid.ensures
+    c.names.ensures) ∙ sym c.if-is_called.ensures in
+    sym (found_later p c.args.classes.now c.loop-number.number c.index-classes-number.result c.loop-number-test.true
+    c.index-classes-number.is is) ∙ c.loop-number.invariant
 
 pub returns : goal.returns
 returns c =
     let p : ClassModel → Bool = λ (t : ClassModel). is_called c.args.name.now t.oid t.names in
-    sym (ap (position_from p c.loop-number.number) (drop_of_length-le c.args.classes.now c.loop-number-test.false)) ∙ c.loop-number.invariant
+    sym (ap (position_from p c.loop-number.number) (drop_of_length-le c.args.classes.now c.loop-number-test.false))
+    ∙ c.loop-number.invariant

@@ -4,4 +4,5 @@ use Rattle.ldap_schema.specs.Schema.{superiors}
 use Rattle.ldap_schema.proofs.tables.leads_to.Given as goal
 
 abbrev pub invariant-loop : goal.invariant-loop
-invariant-loop l = list_any (λ t. nat_eq t l.above) (superiors (length l.types - l.counter) l.types l.current) ≡ list_any (λ t. nat_eq t l.above) (superiors (length l.types) l.types l.fn.type_id)
+invariant-loop l = list_any (λ t. nat_eq t l.above) (superiors (length l.types - l.counter) l.types l.current) ≡
+    list_any (λ t. nat_eq t l.above) (superiors (length l.types) l.types l.fn.type_id)

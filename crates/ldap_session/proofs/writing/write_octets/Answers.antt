@@ -6,7 +6,8 @@ pub loop-init : goal.loop-init
 loop-init g c = begun _ _
 
 pub returns-then-is_done : goal.returns-then-is_done
-returns-then-is_done g c = all_written _ _ _ c.loop.left.now (no_octets _ (sym c.is_done.ensures ∙ c.if-is_done.true)) c.loop.invariant
+returns-then-is_done g c = all_written _ _ _ c.loop.left.now (no_octets _ (sym c.is_done.ensures ∙ c.if-is_done.true))
+    c.loop.invariant
 
 pub returns-in-None : goal.returns-in-None
 returns-in-None g c = given_up _ _ _ _ c.loop.left.now c.loop.invariant c.in-None.ensures.none

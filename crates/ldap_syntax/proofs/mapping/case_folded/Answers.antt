@@ -8,4 +8,8 @@ use Rattle.ldap_syntax.proofs.mapping.case_folded.Goals as goal
 
 pub returns : goal.returns
 returns c =
-    items_from_collect {steps = CaseFoldSteps (copies fronts)} {s = c.default_case_fold.result} _ c.collect.ensures.ran (record { runs = Spells-CaseFold (c.default_case_fold.ensures.text _ (Spells-slice _ _ (search rules))) })
+    items_from_collect {steps = CaseFoldSteps (copies fronts)} {s = c.default_case_fold.result} _
+    c.collect.ensures.ran (record {
+      runs = Spells-CaseFold (c.default_case_fold.ensures.text _
+          (Spells-slice _ _ (search rules)));
+    })

@@ -4,4 +4,5 @@ use Rattle.ldap_syntax.proofs.Ascii.{folded_ascii}
 use Rattle.ldap_syntax.proofs.mapping.folded.Goals as goal
 
 pub returns-then-is_ascii : goal.returns-then-is_ascii
-returns-then-is_ascii c = IfOk-weaker c.lowered.result _ _ (λ v e. e ∙ sym (folded_ascii c.args.text.now c.if-is_ascii.ensures.cases)) c.lowered.ensures
+returns-then-is_ascii c = IfOk-weaker c.lowered.result _ _ (λ v e. e
+    ∙ sym (folded_ascii c.args.text.now c.if-is_ascii.ensures.cases)) c.lowered.ensures

@@ -3,4 +3,5 @@ use Rattle.ldap_syntax.proofs.Words.{writes}
 use Rattle.ldap_syntax.proofs.spacing.push_words.Goals as goal
 
 pub loop-c-init : goal.loop-c-init
-loop-c-init c = ap (λ (x : List ℕ). string_bytes c.args.out.now ++ encode_utf8_all x) ((writes c.args.text.now).at_start false)
+loop-c-init c = ap (λ (x : List ℕ). string_bytes c.args.out.now ++ encode_utf8_all x)
+    ((writes c.args.text.now).at_start false)

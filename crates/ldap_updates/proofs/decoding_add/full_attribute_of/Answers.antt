@@ -8,9 +8,11 @@ use Rattle.ldap_updates.proofs.decoding_add.full_attribute_of.Goals as goal
 pub returns-in_err-attribute-clause-fault : goal.returns-in_err-attribute-clause-fault
 returns-in_err-attribute-clause-fault c =
     let p = err_from_is_err_and c.from_residual.result c.from_residual.ensures.1 in
-    rw (p.1, p.2) (plain_weaker c.in_err-attribute.field-0.0 _ _ (full_partial c.args.content.now) c.in_err-attribute.ensures.fault)
+    rw (p.1, p.2) (plain_weaker c.in_err-attribute.field-0.0 _ _ (full_partial c.args.content.now)
+    c.in_err-attribute.ensures.fault)
 
 pub returns-then-is_empty-clause-fault : goal.returns-then-is_empty-clause-fault
 returns-then-is_empty-clause-fault c =
     full_empty c.args.content.now (attribute_view c.in_ok-attribute.attribute) c.in_ok-attribute.ensures.found
-    (none_mapped (λ v. v.items) c.is_empty.result c.as_slice.result.now c.in_ok-attribute.attribute.values.items c.is_empty.ensures c.if-is_empty.true c.as_slice.ensures.value)
+    (none_mapped (λ v. v.items) c.is_empty.result c.as_slice.result.now c.in_ok-attribute.attribute.values.items
+    c.is_empty.ensures c.if-is_empty.true c.as_slice.ensures.value)

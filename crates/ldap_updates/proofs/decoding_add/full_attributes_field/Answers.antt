@@ -9,4 +9,6 @@ use Rattle.ldap_updates.proofs.decoding_add.full_attributes_field.Goals as goal
 pub returns-in_err-attributes-clause-fault : goal.returns-in_err-attributes-clause-fault
 returns-in_err-attributes-clause-fault c =
     let p = err_from_is_err_and c.from_residual-in_err-attributes.result c.from_residual-in_err-attributes.ensures.1 in
-    rw (p.1, p.2) (plain_weaker c.in_err-attributes.field-0.0 _ _ (part_inside (AreRow HasAttribute) c.args.octets.now c.in_ok-content.content.now c.in_ok-content.rest.now 48 c.in_ok-content.ensures.found) c.in_err-attributes.ensures.fault)
+    rw (p.1, p.2) (plain_weaker c.in_err-attributes.field-0.0 _ _ (part_inside (AreRow HasAttribute) c.args.octets.now
+    c.in_ok-content.content.now c.in_ok-content.rest.now 48 c.in_ok-content.ensures.found)
+    c.in_err-attributes.ensures.fault)

@@ -8,4 +8,6 @@ use Rattle.ldap_updates.proofs.decoding_modify.change_field.Goals as goal
 pub returns-in_err-change-clause-fault : goal.returns-in_err-change-clause-fault
 returns-in_err-change-clause-fault c =
     let p = err_from_is_err_and c.from_residual-in_err-change.result c.from_residual-in_err-change.ensures.1 in
-    rw (p.1, p.2) (plain_weaker c.in_err-change.field-0.0 _ _ (part_inside IsChange c.args.octets.now c.in_ok-content.content.now c.in_ok-content.rest.now 48 c.in_ok-content.ensures.found) c.in_err-change.ensures.fault)
+    rw (p.1, p.2) (plain_weaker c.in_err-change.field-0.0 _ _ (part_inside IsChange c.args.octets.now
+    c.in_ok-content.content.now c.in_ok-content.rest.now 48 c.in_ok-content.ensures.found)
+    c.in_err-change.ensures.fault)

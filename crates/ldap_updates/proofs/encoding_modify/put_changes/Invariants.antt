@@ -6,4 +6,5 @@ use Rattle.ldap_updates.specs.Written.{change_bytes}
 use Rattle.ldap_updates.proofs.encoding_modify.put_changes.Given as goal
 
 abbrev pub invariant-loop-change : goal.invariant-loop-change
-invariant-loop-change l = l.out.items ≡ l.initial.out.items ++ row_bytes change_bytes (map change_view (take l.change-index l.changes))
+invariant-loop-change l = l.out.items ≡ l.initial.out.items ++ row_bytes change_bytes
+    (map change_view (take l.change-index l.changes))

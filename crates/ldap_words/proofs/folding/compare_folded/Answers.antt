@@ -5,4 +5,5 @@ use Rattle.ldap_words.proofs.folding.compare_folded.Goals as goal
 
 pub returns-in-None : goal.returns-in-None
 returns-in-None c =
-    longer c.args.kept.now c.loop-octet.rest.now c.loop-octet.octet-index to_ascii_lowercase c.loop-octet-test.true c.in-None.ensures.cases ∙ c.loop-octet.invariant
+    longer c.args.kept.now c.loop-octet.rest.now c.loop-octet.octet-index to_ascii_lowercase c.loop-octet-test.true
+    c.in-None.ensures.cases ∙ c.loop-octet.invariant

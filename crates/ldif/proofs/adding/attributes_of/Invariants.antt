@@ -9,5 +9,6 @@ use Rattle.ldif.proofs.adding.attributes_of.Given as goal
 abbrev pub invariant-loop-value : goal.invariant-loop-value
 invariant-loop-value l = record {
   attributes : map attribute_view l.attributes.items ≡ attributes_of (take l.value-index l.values);
-  indexes : (q : List ℕ) → number_at l.indexes.entries q ≡ position_from (has_type q) 0 (firsts [] (take l.value-index l.values));
+  indexes : (q : List ℕ) → number_at l.indexes.entries q ≡ position_from (has_type q) 0
+      (firsts [] (take l.value-index l.values));
 }

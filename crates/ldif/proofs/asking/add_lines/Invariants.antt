@@ -7,6 +7,7 @@ use Rattle.ldif.proofs.asking.add_lines.Given as goal
 
 abbrev pub invariant-loop-index : goal.invariant-loop-index
 invariant-loop-index l =
-    (l.out.items ++ message_lines (adds_from (l.index + 1) (drop l.index l.records)) ≡ message_lines (adds_from 1 l.records))
+    (l.out.items ++ message_lines (adds_from (l.index + 1) (drop l.index l.records)) ≡ message_lines
+    (adds_from 1 l.records))
     × (HasTooLong (adds_from (l.index + 1) (drop l.index l.records)) → HasTooLong (adds_from 1 l.records))
     × (l.index < 2 ^ 31)

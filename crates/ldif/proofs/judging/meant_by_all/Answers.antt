@@ -6,6 +6,8 @@ use Rattle.ldif.proofs.judging.meant_by_all.Goals as goal
 
 pub loop-octets-preserved : goal.loop-octets-preserved
 loop-octets-preserved c =
-    mean_more c.args.messages.now c.loop-octets.octets-index c.octets-item.result c.loop-octets.all.items c.push.new.self.items c.in_ok-meant.field-0
+    mean_more c.args.messages.now c.loop-octets.octets-index c.octets-item.result c.loop-octets.all.items
+    c.push.new.self.items c.in_ok-meant.field-0
     c.loop-octets-test.true c.octets-item.is c.loop-octets.invariant
-    (subst (λ (o : List ℕ). Means o c.in_ok-meant.field-0) c.deref.ensures.value c.in_ok-meant.ensures) c.in_ok-push.ensures.items
+    (subst (λ (o : List ℕ). Means o c.in_ok-meant.field-0) c.deref.ensures.value c.in_ok-meant.ensures)
+    c.in_ok-push.ensures.items

@@ -8,5 +8,7 @@ use Rattle.ldif.proofs.lines.unfolded.Goals as goal
 pub returns : goal.returns
 returns c =
     sym (resumed_nil c.loop-index.lines.items)
-    ∙ sym (ap (λ xs. resumed c.loop-index.lines.items (unfolded (c.loop-index.index + 1) (map without_return (map (λ x. x.now) xs)))) (drop_past c.loop-index.index c.args.parts.now c.loop-index-test.false))
+    ∙ sym (ap (λ xs. resumed c.loop-index.lines.items (unfolded (c.loop-index.index + 1)
+    (map without_return (map (λ x. x.now) xs)))) (drop_past c.loop-index.index c.args.parts.now
+    c.loop-index-test.false))
     ∙ c.loop-index.invariant

@@ -5,4 +5,6 @@ use Rattle.ldif.specs.private.Folding.{resumed}
 use Rattle.ldif.proofs.lines.unfolded.Given as goal
 
 abbrev pub invariant-loop-index : goal.invariant-loop-index
-invariant-loop-index l = resumed l.lines.items (unfolded (l.index + 1) (map without_return (map (λ x. x.now) (drop l.index l.parts)))) ≡ unfolded 1 (map without_return (map (λ x. x.now) l.parts))
+invariant-loop-index l = resumed l.lines.items
+    (unfolded (l.index + 1) (map without_return (map (λ x. x.now) (drop l.index l.parts)))) ≡
+    unfolded 1 (map without_return (map (λ x. x.now) l.parts))

@@ -5,4 +5,5 @@ use Rattle.ldif.proofs.placing.text_at.Given as goal
 
 abbrev pub invariant-loop-line : goal.invariant-loop-line
 invariant-loop-line l =
-    slice_get (filter (λ m. nat_eq m.number l.number) (drop l.line-index l.lines)) 0 ≡ slice_get (filter (λ m. nat_eq m.number l.number) l.lines) 0
+    slice_get (filter (λ m. nat_eq m.number l.number) (drop l.line-index l.lines)) 0 ≡
+    slice_get (filter (λ m. nat_eq m.number l.number) l.lines) 0

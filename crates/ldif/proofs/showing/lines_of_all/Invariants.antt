@@ -5,4 +5,5 @@ use Rattle.ldif.specs.Entries.{lines_of_all}
 use Rattle.ldif.proofs.showing.lines_of_all.Given as goal
 
 abbrev pub invariant-loop-attribute : goal.invariant-loop-attribute
-invariant-loop-attribute l = l.values.items ++ lines_of_all (map attribute_view (drop l.attribute-index l.attributes)) ≡ lines_of_all (map attribute_view l.attributes)
+invariant-loop-attribute l = l.values.items ++ lines_of_all (map attribute_view (drop l.attribute-index l.attributes))
+    ≡ lines_of_all (map attribute_view l.attributes)

@@ -5,4 +5,5 @@ use Rattle.ldif.specs.Entries.{record_of}
 use Rattle.ldif.proofs.showing.records_of.Given as goal
 
 abbrev pub invariant-loop-entry : goal.invariant-loop-entry
-invariant-loop-entry l = l.records.items ++ map record_of (map entry_view (drop l.entry-index l.shown)) ≡ map record_of (map entry_view l.shown)
+invariant-loop-entry l = l.records.items ++ map record_of (map entry_view (drop l.entry-index l.shown)) ≡
+    map record_of (map entry_view l.shown)

@@ -6,7 +6,8 @@ use Rattle.ldif.proofs.writing.put_records.Goals as goal
 
 pub loop-item-preserved : goal.loop-item-preserved
 loop-item-preserved c = (
-  record_written c.args.records.now c.loop-item.item-index c.item-item.result c.loop-item.out.items c.put_record.new.out.items c.loop-item-test.true c.item-item.is c.in_ok-put_record.ensures.ok
+  record_written c.args.records.now c.loop-item.item-index c.item-item.result c.loop-item.out.items
+      c.put_record.new.out.items c.loop-item-test.true c.item-item.is c.in_ok-put_record.ensures.ok
       ∙ c.loop-item.invariant.0,
   grind (arith, common_steps, c.in_ok-put_record.ensures.kept, c.loop-item.invariant.1),
 )

@@ -5,5 +5,6 @@ use Rattle.ldif.proofs.writing.put_records.Given as goal
 
 abbrev pub invariant-loop-item : goal.invariant-loop-item
 invariant-loop-item l =
-    (l.out.items ++ lines_text (records_lines (drop l.item-index l.records)) ≡ l.fn.out.items ++ lines_text (records_lines l.records))
+    (l.out.items ++ lines_text (records_lines (drop l.item-index l.records)) ≡ l.fn.out.items ++ lines_text
+    (records_lines l.records))
     × (l.out.items ≡ l.fn.out.items ++ drop (length l.fn.out.items) l.out.items)

@@ -11,5 +11,6 @@ returns c =
     let t = c.in-Some.type_id in
     c.at_line_or.ensures
     ∙ ap (λ z. at_line_or r z (option_map (λ x. x.now) c.first_of-line.result)) c.in_ok-sentence.ensures
-    ∙ ap (at_line_or r (not_allowed s t)) (c.first_of-line.ensures ∙ ap (first_line (λ line. is_number t (find s line.description))) c.lines.ensures)
+    ∙ ap (at_line_or r (not_allowed s t)) (c.first_of-line.ensures
+    ∙ ap (first_line (λ line. is_number t (find s line.description))) c.lines.ensures)
     ∙ ap (foreign_by s r) (sym c.in-Some.is)

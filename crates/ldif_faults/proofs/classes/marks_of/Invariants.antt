@@ -5,5 +5,6 @@ use Rattle.ldif_faults.proofs.classes.marks_of.Given as goal
 abbrev pub invariant-loop-type_id : goal.invariant-loop-type_id
 invariant-loop-type_id l = record {
   count : length l.marks.items ≡ l.count;
-  marks : (t : ℕ) → (get_or l.marks.items t false || (nat_lt t l.count && is_among (drop l.type_id-index l.types) t)) ≡ (nat_lt t l.count && is_among l.types t);
+  marks : (t : ℕ) → (get_or l.marks.items t false || (nat_lt t l.count && is_among (drop l.type_id-index l.types) t))
+      ≡ (nat_lt t l.count && is_among l.types t);
 }

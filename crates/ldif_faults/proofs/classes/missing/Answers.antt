@@ -4,5 +4,6 @@ use Rattle.ldif_faults.proofs.classes.missing.Goals as goal
 
 pub returns : goal.returns
 returns c =
-    two_words string_bytes c.format.result (codes "no value of '") _ _ (codes "', which the class '") _ _ (codes "' requires")
+    two_words string_bytes c.format.result (codes "no value of '") _ _ (codes "', which the class '") _ _
+    (codes "' requires")
     c.in_ok-needed.ensures c.in_ok-class.ensures c.format.ensures.ok

@@ -8,7 +8,9 @@ parts q o a n z = simp append_assoc
 
 pub returns : goal.returns
 returns c =
-    let around : List ℕ → List ℕ = λ x. codes "'" ++ (x ++ (codes "' at column " ++ (decimal c.args.column ++ codes " is no hexadecimal digit"))) in
+    let around : List ℕ → List ℕ = λ x.
+    codes "'" ++ (x ++ (codes "' at column " ++ (decimal c.args.column ++ codes " is no hexadecimal digit"))) in
     written_as string_bytes c.format.result _ (bad_octet c.args.octet c.args.column)
-    (ap around c.in_ok-octet.ensures ∙ parts (codes "'") _ (codes "' at column ") (decimal c.args.column) (codes " is no hexadecimal digit"))
+    (ap around c.in_ok-octet.ensures ∙ parts (codes "'") _ (codes "' at column ") (decimal c.args.column)
+    (codes " is no hexadecimal digit"))
     c.format.ensures.ok

@@ -6,4 +6,5 @@ use Rattle.ldif_faults.proofs.Again.{again_of_map}
 use Rattle.ldif_faults.proofs.values.first_again.Goals as goal
 
 pub returns : goal.returns
-returns c = IfOk-weaker c.first_equal.result _ _ (λ o e. e ∙ again_of_map _ bytes_eq (λ (o : Bor (List ℕ)). o.now) (λ x y. is_eq-slice_cmp x.now y.now) [] 0 c.args.list.now) c.first_equal.ensures
+returns c = IfOk-weaker c.first_equal.result _ _ (λ o e. e ∙ again_of_map _ bytes_eq (λ (o : Bor (List ℕ)). o.now)
+    (λ x y. is_eq-slice_cmp x.now y.now) [] 0 c.args.list.now) c.first_equal.ensures

@@ -6,4 +6,5 @@ use Rattle.ldif_faults.proofs.values.value_twice.Goals as goal
 pub returns : goal.returns
 returns c =
     two_words string_bytes c.format.result (codes "the value '") _ _ (codes "' of '") _ _ (codes "' comes twice")
-    (c.in_ok-value.ensures ∙ ap word_shown c.octets.ensures) (c.in_ok-word.ensures ∙ ap word_shown c.description.ensures) c.format.ensures.ok
+    (c.in_ok-value.ensures ∙ ap word_shown c.octets.ensures) (c.in_ok-word.ensures
+    ∙ ap word_shown c.description.ensures) c.format.ensures.ok

@@ -7,7 +7,9 @@ use Rattle.local_directory.proofs.adding.add_records.Given as goal
 
 abbrev pub invariant-loop-index : goal.invariant-loop-index
 invariant-loop-index l =
-    (directory_after l.store.directory l.index (adds (drop l.index l.records)) ≡ directory_after l.fn.store.directory 0 (adds l.records))
-    × (first_refused l.store.directory l.index (adds (drop l.index l.records)) ≡ first_refused l.fn.store.directory 0 (adds l.records))
+    (directory_after l.store.directory l.index (adds (drop l.index l.records)) ≡ directory_after l.fn.store.directory
+    0 (adds l.records))
+    × (first_refused l.store.directory l.index (adds (drop l.index l.records)) ≡ first_refused l.fn.store.directory 0
+    (adds l.records))
     × NumbersBelow (l.index + 1) l.store.directory.entries
     × (l.store.indexes ≡ l.fn.store.indexes)

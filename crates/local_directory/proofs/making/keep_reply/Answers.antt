@@ -7,4 +7,8 @@ use Rattle.local_directory.proofs.making.keep_reply.Goals as goal
 pub returns-then-is_success-clause-kept : goal.returns-then-is_success-clause-kept
 returns-then-is_success-clause-kept c =
     put_same c.args.clients.now c.args.request.client _
-    (c.requires.room ∙ ap (λ (r : ReplyModel). Some (record { request = c.args.request.number; number = c.args.number; reply = r })) (sym (c.is_success.ensures.0 c.if-is_success.true)))
+    (c.requires.room ∙ ap (λ (r : ReplyModel). Some (record {
+      request = c.args.request.number;
+      number = c.args.number;
+      reply = r;
+    })) (sym (c.is_success.ensures.0 c.if-is_success.true)))

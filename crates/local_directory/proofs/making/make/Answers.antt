@@ -14,21 +14,31 @@ pub make_with_room-requires-clause-room : goal.make_with_room-requires-clause-ro
 make_with_room-requires-clause-room c =
     ap (λ (m : map.FinMap client_cmp KeptValue). map.get m c.args.request.client) c.in_ok-before.ensures.ok
     ∙ put_there c.args.clients.now c.args.request.client _
-    ∙ ap (λ (r : ReplyModel). Some (record { request = c.args.request.number; number = c.args.number; reply = r })) c.only.ensures
+    ∙ ap (λ (r : ReplyModel). Some (record { request = c.args.request.number; number = c.args.number; reply = r }))
+    c.only.ensures
 
 pub put_back-requires : goal.put_back-requires
 put_back-requires c = record {
-  there = ap (λ (m : map.FinMap client_cmp KeptValue). is_some (map.get m c.args.request.client)) (c.in-Err.ensures.err_clients ∙ c.in_ok-before.ensures.ok) ∙ has_put c.args.clients.now c.args.request.client _;
+  there = ap (λ (m : map.FinMap client_cmp KeptValue). is_some (map.get m c.args.request.client))
+      (c.in-Err.ensures.err_clients ∙ c.in_ok-before.ensures.ok) ∙ has_put c.args.clients.now c.args.request.client _;
 }
 
 pub returns-in-Ok-clause-kept : goal.returns-in-Ok-clause-kept
 returns-in-Ok-clause-kept c =
     c.in-Ok.ensures.kept
-    ∙ ap (λ (m : map.FinMap client_cmp KeptValue). map.insert m c.args.request.client (record { request = c.args.request.number; number = c.args.number; reply = reply_to c.args.store.now.directory c.args.number c.args.op.now })) c.in_ok-before.ensures.ok
+    ∙ ap (λ (m : map.FinMap client_cmp KeptValue). map.insert m c.args.request.client
+    (record {
+      request = c.args.request.number;
+      number = c.args.number;
+      reply = reply_to c.args.store.now.directory
+          c.args.number c.args.op.now;
+    })) c.in_ok-before.ensures.ok
     ∙ put_twice c.args.clients.now c.args.request.client _ _
 
 pub returns-in-Err-clause-err_clients : goal.returns-in-Err-clause-err_clients
 returns-in-Err-clause-err_clients c =
     c.put_back.ensures
-    ∙ ap (λ (m : map.FinMap client_cmp KeptValue). with_kept m c.args.request.client (option_map kept_view c.in_ok-before.before)) (c.in-Err.ensures.err_clients ∙ c.in_ok-before.ensures.ok)
-    ∙ put_back_same c.args.clients.now c.args.request.client _ (option_map kept_view c.in_ok-before.before) c.in_ok-before.ensures.before
+    ∙ ap (λ (m : map.FinMap client_cmp KeptValue). with_kept m c.args.request.client
+    (option_map kept_view c.in_ok-before.before)) (c.in-Err.ensures.err_clients ∙ c.in_ok-before.ensures.ok)
+    ∙ put_back_same c.args.clients.now c.args.request.client _ (option_map kept_view c.in_ok-before.before)
+    c.in_ok-before.ensures.before

@@ -14,11 +14,20 @@ alone e (inr k) h = absurd (h k)
 
 pub returns-in-Err-push_frame-clause-errors : goal.returns-in-Err-push_frame-clause-errors
 returns-in-Err-push_frame-clause-errors c = alone c.in-Err-push_frame.error c.in-Err-push_frame.ensures.errors
-    (λ e. omega (arith, c.in-Err-push_frame.ensures.no_memory (ap (λ (x : NoteError). Err x) e), ap length c.as_slice.ensures.value, ap length c.in-Ok.ensures.ok, string_length (fields_view c.args.fields.now), c.requires.room))
+    (λ e. omega (
+      arith,
+      c.in-Err-push_frame.ensures.no_memory (ap (λ (x : NoteError). Err x)
+          e),
+      ap length c.as_slice.ensures.value,
+      ap length c.in-Ok.ensures.ok,
+      string_length (fields_view c.args.fields.now),
+      c.requires.room,
+    ))
 
 pub returns-in-Ok-push_frame-clause-ok : goal.returns-in-Ok-push_frame-clause-ok
 returns-in-Ok-push_frame-clause-ok c = record {
   string = c.as_slice.result.now;
   is = c.in-Ok-push_frame.ensures.ok;
-  read = ap fields_at (c.as_slice.ensures.value ∙ c.in-Ok.ensures.ok) ∙ c.fields_are_read.ensures (fields_view c.args.fields.now) c.see_fields.ensures;
+  read = ap fields_at (c.as_slice.ensures.value ∙ c.in-Ok.ensures.ok) ∙ c.fields_are_read.ensures
+      (fields_view c.args.fields.now) c.see_fields.ensures;
 }

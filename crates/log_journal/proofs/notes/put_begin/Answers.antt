@@ -4,7 +4,9 @@ use Rattle.log_journal.proofs.Putting.{one_full, one_put}
 use Rattle.log_journal.proofs.notes.put_begin.Goals as goal
 
 pub returns-clause-ok : goal.returns-clause-ok
-returns-clause-ok c = one_put (Begin c.args.cluster c.args.index c.args.count) _ _ _ c.in_ok-put_fields.ensures.ok c.plain.ensures
+returns-clause-ok c = one_put (Begin c.args.cluster c.args.index c.args.count) _ _ _ c.in_ok-put_fields.ensures.ok
+    c.plain.ensures
 
 pub returns-in_err-put_fields-clause-full : goal.returns-in_err-put_fields-clause-full
-returns-in_err-put_fields-clause-full c = λ is. one_full (Begin c.args.cluster c.args.index c.args.count) _ _ (c.in_err-put_fields.ensures.full (search rules)) c.plain.ensures
+returns-in_err-put_fields-clause-full c = λ is. one_full (Begin c.args.cluster c.args.index c.args.count) _ _
+    (c.in_err-put_fields.ensures.full (search rules)) c.plain.ensures

@@ -7,4 +7,5 @@ pub returns-clause-ok : goal.returns-clause-ok
 returns-clause-ok c = one_put (Commit c.args.commit_number) _ _ _ c.in_ok-put_fields.ensures.ok c.plain.ensures
 
 pub returns-in_err-put_fields-clause-full : goal.returns-in_err-put_fields-clause-full
-returns-in_err-put_fields-clause-full c = λ is. one_full (Commit c.args.commit_number) _ _ (c.in_err-put_fields.ensures.full (search rules)) c.plain.ensures
+returns-in_err-put_fields-clause-full c = λ is. one_full (Commit c.args.commit_number) _ _
+    (c.in_err-put_fields.ensures.full (search rules)) c.plain.ensures

@@ -4,4 +4,5 @@ use Rattle.log_journal.proofs.Putting.{one_put}
 use Rattle.log_journal.proofs.notes.put_record.Goals as goal
 
 pub returns-clause-ok : goal.returns-clause-ok
-returns-clause-ok c = one_put (Step (Record c.args.commit_number c.args.entry.now)) _ _ _ c.in_ok-put_fields.ensures.ok c.entry_fields.ensures.entry
+returns-clause-ok c = one_put (Step (Record c.args.commit_number c.args.entry.now)) _ _ _
+    c.in_ok-put_fields.ensures.ok c.entry_fields.ensures.entry

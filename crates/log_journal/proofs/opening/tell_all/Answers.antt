@@ -16,11 +16,14 @@ pub strings-init : goal.strings-init
 strings-init g c =
     let d = c.args.device.now in
     record {
-      telling = telling_none (g.J.Device.seen d) c.args.reader.now.end (told_view c.nothing_told-told.result) c.requires.front c.nothing_told-told.ensures;
+      telling = telling_none (g.J.Device.seen d) c.args.reader.now.end (told_view c.nothing_told-told.result)
+          c.requires.front c.nothing_told-told.ensures;
       read = c.requires.read;
       seen = refl;
       durable = c.requires.durable;
-      moments = started g.J.Device.moment g.J.Device.left_since d (λ (x : List ℕ). recorded x ≡ recorded (g.J.Device.seen d)) (λ x left. ap recorded (c.requires.durable x (g.met.J.Device.only_now d x left)));
+      moments = started g.J.Device.moment g.J.Device.left_since d (λ (x : List ℕ). recorded x ≡
+          recorded (g.J.Device.seen d))
+          (λ x left. ap recorded (c.requires.durable x (g.met.J.Device.only_now d x left)));
       later = omega arith;
     }
 
@@ -29,17 +32,25 @@ strings-preserved g c =
     let d = c.args.device.now in
     let image = g.J.Device.seen d in
     let before = c.strings.invariant in
-    let step : TellsNext true c.strings.reader c.tell_next.new.reader (told_view c.strings.told) (told_view c.tell_next.new.told) image =
-    subst (λ (l : List ℕ). TellsNext true c.strings.reader c.tell_next.new.reader (told_view c.strings.told) (told_view c.tell_next.new.told) l) before.seen
-    (subst (λ b. TellsNext b c.strings.reader c.tell_next.new.reader (told_view c.strings.told) (told_view c.tell_next.new.told) (g.J.Device.seen c.strings.device)) c.if-not-more.false c.in-Ok.ensures.told) in
+    let step : TellsNext true c.strings.reader c.tell_next.new.reader (told_view c.strings.told)
+    (told_view c.tell_next.new.told) image =
+    subst (λ (l : List ℕ). TellsNext true c.strings.reader c.tell_next.new.reader (told_view c.strings.told)
+    (told_view c.tell_next.new.told) l) before.seen
+    (subst (λ b. TellsNext b c.strings.reader c.tell_next.new.reader (told_view c.strings.told)
+    (told_view c.tell_next.new.told) (g.J.Device.seen c.strings.device)) c.if-not-more.false c.in-Ok.ensures.told)
+    in
     record {
-      telling = telling_next image c.strings.reader c.tell_next.new.reader (told_view c.strings.told) (told_view c.tell_next.new.told) before.telling step.0 step.1;
+      telling = telling_next image c.strings.reader c.tell_next.new.reader (told_view c.strings.told)
+          (told_view c.tell_next.new.told) before.telling step.0 step.1;
       read = c.in-Ok.ensures.read;
       seen = c.tell_next.ensures.seen ∙ before.seen;
       durable = c.tell_next.ensures.durable;
       moments =
-          chained g.J.Device.moment g.J.Device.left_since d c.strings.device c.tell_next.new.device (λ (x : List ℕ). recorded x ≡ recorded image) before.moments
-          (subst (λ (l : List (List ℕ)). LeavesOnly g.J.Device.moment g.J.Device.left_since c.strings.device c.tell_next.new.device (λ (x : List ℕ). recorded x ≡ l)) (ap recorded before.seen) c.tell_next.ensures.any_moment);
+          chained g.J.Device.moment g.J.Device.left_since d c.strings.device c.tell_next.new.device
+          (λ (x : List ℕ). recorded x ≡ recorded image) before.moments
+          (subst (λ (l : List (List ℕ)). LeavesOnly g.J.Device.moment g.J.Device.left_since c.strings.device
+          c.tell_next.new.device (λ (x : List ℕ). recorded x ≡ l)) (ap recorded before.seen)
+          c.tell_next.ensures.any_moment);
       later = omega (arith, before.later, c.tell_next.ensures.later);
     }
 
@@ -48,9 +59,13 @@ strings-smaller g c =
     let d = c.args.device.now in
     let image = g.J.Device.seen d in
     let before = c.strings.invariant in
-    let step : TellsNext true c.strings.reader c.tell_next.new.reader (told_view c.strings.told) (told_view c.tell_next.new.told) image =
-    subst (λ (l : List ℕ). TellsNext true c.strings.reader c.tell_next.new.reader (told_view c.strings.told) (told_view c.tell_next.new.told) l) before.seen
-    (subst (λ b. TellsNext b c.strings.reader c.tell_next.new.reader (told_view c.strings.told) (told_view c.tell_next.new.told) (g.J.Device.seen c.strings.device)) c.if-not-more.false c.in-Ok.ensures.told) in
+    let step : TellsNext true c.strings.reader c.tell_next.new.reader (told_view c.strings.told)
+    (told_view c.tell_next.new.told) image =
+    subst (λ (l : List ℕ). TellsNext true c.strings.reader c.tell_next.new.reader (told_view c.strings.told)
+    (told_view c.tell_next.new.told) l) before.seen
+    (subst (λ b. TellsNext b c.strings.reader c.tell_next.new.reader (told_view c.strings.told)
+    (told_view c.tell_next.new.told) (g.J.Device.seen c.strings.device)) c.if-not-more.false c.in-Ok.ensures.told)
+    in
     omega (arith, step.0.rises, c.in-Ok.ensures.read.within, ap length c.tell_next.ensures.seen)
 
 pub returns-then-not-more-clause-any_moment : goal.returns-then-not-more-clause-any_moment
@@ -58,16 +73,22 @@ returns-then-not-more-clause-any_moment g c =
     let d = c.args.device.now in
     let image = g.J.Device.seen d in
     let before = c.strings.invariant in
-    chained g.J.Device.moment g.J.Device.left_since d c.strings.device c.tell_next.new.device (λ (x : List ℕ). recorded x ≡ recorded image) before.moments
-    (subst (λ (l : List (List ℕ)). LeavesOnly g.J.Device.moment g.J.Device.left_since c.strings.device c.tell_next.new.device (λ (x : List ℕ). recorded x ≡ l)) (ap recorded before.seen) c.tell_next.ensures.any_moment)
+    chained g.J.Device.moment g.J.Device.left_since d c.strings.device c.tell_next.new.device
+    (λ (x : List ℕ). recorded x ≡ recorded image) before.moments
+    (subst (λ (l : List (List ℕ)). LeavesOnly g.J.Device.moment g.J.Device.left_since c.strings.device
+    c.tell_next.new.device (λ (x : List ℕ). recorded x ≡ l)) (ap recorded before.seen)
+    c.tell_next.ensures.any_moment)
 
 pub returns-in-Err-clause-any_moment : goal.returns-in-Err-clause-any_moment
 returns-in-Err-clause-any_moment g c =
     let d = c.args.device.now in
     let image = g.J.Device.seen d in
     let before = c.strings.invariant in
-    chained g.J.Device.moment g.J.Device.left_since d c.strings.device c.tell_next.new.device (λ (x : List ℕ). recorded x ≡ recorded image) before.moments
-    (subst (λ (l : List (List ℕ)). LeavesOnly g.J.Device.moment g.J.Device.left_since c.strings.device c.tell_next.new.device (λ (x : List ℕ). recorded x ≡ l)) (ap recorded before.seen) c.tell_next.ensures.any_moment)
+    chained g.J.Device.moment g.J.Device.left_since d c.strings.device c.tell_next.new.device
+    (λ (x : List ℕ). recorded x ≡ recorded image) before.moments
+    (subst (λ (l : List (List ℕ)). LeavesOnly g.J.Device.moment g.J.Device.left_since c.strings.device
+    c.tell_next.new.device (λ (x : List ℕ). recorded x ≡ l)) (ap recorded before.seen)
+    c.tell_next.ensures.any_moment)
 
 pub returns-in-Err-clause-version : goal.returns-in-Err-clause-version
 returns-in-Err-clause-version g c = λ is.
@@ -75,7 +96,8 @@ returns-in-Err-clause-version g c = λ is.
     let image = g.J.Device.seen d in
     let before = c.strings.invariant in
     let same : c.in-Err.error ≡ AnotherVersion = cc is in
-    before.telling.version (subst (λ (l : List ℕ). HasAnotherVersion (recorded (drop c.strings.reader.end l))) before.seen (c.in-Err.ensures.version (ap (λ (x : NoteError). Err x) same)))
+    before.telling.version (subst (λ (l : List ℕ). HasAnotherVersion (recorded (drop c.strings.reader.end l)))
+    before.seen (c.in-Err.ensures.version (ap (λ (x : NoteError). Err x) same)))
 
 pub returns-in-Err-clause-damaged : goal.returns-in-Err-clause-damaged
 returns-in-Err-clause-damaged g c = λ is.
@@ -83,26 +105,34 @@ returns-in-Err-clause-damaged g c = λ is.
     let image = g.J.Device.seen d in
     let before = c.strings.invariant in
     let same : c.in-Err.error ≡ Damaged = cc is in
-    before.telling.damage (subst (λ (l : List ℕ). HasDamage (recorded (drop c.strings.reader.end l))) before.seen (c.in-Err.ensures.damaged (ap (λ (x : NoteError). Err x) same)))
+    before.telling.damage (subst (λ (l : List ℕ). HasDamage (recorded (drop c.strings.reader.end l))) before.seen
+    (c.in-Err.ensures.damaged (ap (λ (x : NoteError). Err x) same)))
 
 pub returns-then-not-more-clause-told : goal.returns-then-not-more-clause-told
 returns-then-not-more-clause-told g c =
     let d = c.args.device.now in
     let image = g.J.Device.seen d in
     let before = c.strings.invariant in
-    let step : TellsNext false c.strings.reader c.tell_next.new.reader (told_view c.strings.told) (told_view c.tell_next.new.told) image =
-    subst (λ (l : List ℕ). TellsNext false c.strings.reader c.tell_next.new.reader (told_view c.strings.told) (told_view c.tell_next.new.told) l) before.seen
-    (subst (λ b. TellsNext b c.strings.reader c.tell_next.new.reader (told_view c.strings.told) (told_view c.tell_next.new.told) (g.J.Device.seen c.strings.device)) c.if-not-more.true c.in-Ok.ensures.told) in
-    subst (λ (u : Told). Tells nothing_told (recorded image) u) (sym step.1) (telling_done image c.strings.reader c.tell_next.new.reader (told_view c.strings.told) before.telling step.0)
+    let step : TellsNext false c.strings.reader c.tell_next.new.reader (told_view c.strings.told)
+    (told_view c.tell_next.new.told) image =
+    subst (λ (l : List ℕ). TellsNext false c.strings.reader c.tell_next.new.reader (told_view c.strings.told)
+    (told_view c.tell_next.new.told) l) before.seen
+    (subst (λ b. TellsNext b c.strings.reader c.tell_next.new.reader (told_view c.strings.told)
+    (told_view c.tell_next.new.told) (g.J.Device.seen c.strings.device)) c.if-not-more.true c.in-Ok.ensures.told) in
+    subst (λ (u : Told). Tells nothing_told (recorded image) u) (sym step.1) (telling_done image c.strings.reader
+    c.tell_next.new.reader (told_view c.strings.told) before.telling step.0)
 
 pub returns-then-not-more-clause-none : goal.returns-then-not-more-clause-none
 returns-then-not-more-clause-none g c =
     let d = c.args.device.now in
     let image = g.J.Device.seen d in
     let before = c.strings.invariant in
-    let step : TellsNext false c.strings.reader c.tell_next.new.reader (told_view c.strings.told) (told_view c.tell_next.new.told) image =
-    subst (λ (l : List ℕ). TellsNext false c.strings.reader c.tell_next.new.reader (told_view c.strings.told) (told_view c.tell_next.new.told) l) before.seen
-    (subst (λ b. TellsNext b c.strings.reader c.tell_next.new.reader (told_view c.strings.told) (told_view c.tell_next.new.told) (g.J.Device.seen c.strings.device)) c.if-not-more.true c.in-Ok.ensures.told) in
+    let step : TellsNext false c.strings.reader c.tell_next.new.reader (told_view c.strings.told)
+    (told_view c.tell_next.new.told) image =
+    subst (λ (l : List ℕ). TellsNext false c.strings.reader c.tell_next.new.reader (told_view c.strings.told)
+    (told_view c.tell_next.new.told) l) before.seen
+    (subst (λ b. TellsNext b c.strings.reader c.tell_next.new.reader (told_view c.strings.told)
+    (told_view c.tell_next.new.told) (g.J.Device.seen c.strings.device)) c.if-not-more.true c.in-Ok.ensures.told) in
     ap₂ (λ k (l : List ℕ). is_whole (drop k l)) step.0.stays (c.tell_next.ensures.seen ∙ before.seen) ∙ step.0.none
 
 pub returns-then-not-more-clause-empty : goal.returns-then-not-more-clause-empty
@@ -110,9 +140,12 @@ returns-then-not-more-clause-empty g c = λ e.
     let d = c.args.device.now in
     let image = g.J.Device.seen d in
     let before = c.strings.invariant in
-    let step : TellsNext false c.strings.reader c.tell_next.new.reader (told_view c.strings.told) (told_view c.tell_next.new.told) image =
-    subst (λ (l : List ℕ). TellsNext false c.strings.reader c.tell_next.new.reader (told_view c.strings.told) (told_view c.tell_next.new.told) l) before.seen
-    (subst (λ b. TellsNext b c.strings.reader c.tell_next.new.reader (told_view c.strings.told) (told_view c.tell_next.new.told) (g.J.Device.seen c.strings.device)) c.if-not-more.true c.in-Ok.ensures.told) in
+    let step : TellsNext false c.strings.reader c.tell_next.new.reader (told_view c.strings.told)
+    (told_view c.tell_next.new.told) image =
+    subst (λ (l : List ℕ). TellsNext false c.strings.reader c.tell_next.new.reader (told_view c.strings.told)
+    (told_view c.tell_next.new.told) l) before.seen
+    (subst (λ b. TellsNext b c.strings.reader c.tell_next.new.reader (told_view c.strings.told)
+    (told_view c.tell_next.new.told) (g.J.Device.seen c.strings.device)) c.if-not-more.true c.in-Ok.ensures.told) in
     nothing_found image c.strings.reader.end (sym step.0.stays ∙ e) step.0.left
 
 pub returns-then-not-more-clause-not_empty : goal.returns-then-not-more-clause-not_empty
@@ -120,7 +153,10 @@ returns-then-not-more-clause-not_empty g c = λ e.
     let d = c.args.device.now in
     let image = g.J.Device.seen d in
     let before = c.strings.invariant in
-    let step : TellsNext false c.strings.reader c.tell_next.new.reader (told_view c.strings.told) (told_view c.tell_next.new.told) image =
-    subst (λ (l : List ℕ). TellsNext false c.strings.reader c.tell_next.new.reader (told_view c.strings.told) (told_view c.tell_next.new.told) l) before.seen
-    (subst (λ b. TellsNext b c.strings.reader c.tell_next.new.reader (told_view c.strings.told) (told_view c.tell_next.new.told) (g.J.Device.seen c.strings.device)) c.if-not-more.true c.in-Ok.ensures.told) in
+    let step : TellsNext false c.strings.reader c.tell_next.new.reader (told_view c.strings.told)
+    (told_view c.tell_next.new.told) image =
+    subst (λ (l : List ℕ). TellsNext false c.strings.reader c.tell_next.new.reader (told_view c.strings.told)
+    (told_view c.tell_next.new.told) l) before.seen
+    (subst (λ b. TellsNext b c.strings.reader c.tell_next.new.reader (told_view c.strings.told)
+    (told_view c.tell_next.new.told) (g.J.Device.seen c.strings.device)) c.if-not-more.true c.in-Ok.ensures.told) in
     some_found image c.strings.reader.end before.telling.some (λ z. e (step.0.stays ∙ z))

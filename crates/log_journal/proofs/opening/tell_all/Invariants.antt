@@ -13,7 +13,8 @@ invariant-strings g l = record {
   read : HasRead l.reader (g.J.Device.seen l.device);
   seen : g.J.Device.seen l.device ≡ g.J.Device.seen l.fn.device;
   durable : Only (g.J.Device.seen l.device) (g.J.Device.may_leave l.device);
-  moments : LeavesOnly g.J.Device.moment g.J.Device.left_since l.fn.device l.device (λ c. recorded c ≡ recorded (g.J.Device.seen l.fn.device));
+  moments : LeavesOnly g.J.Device.moment g.J.Device.left_since l.fn.device l.device (λ c. recorded c ≡
+      recorded (g.J.Device.seen l.fn.device));
   later : g.J.Device.failure_count l.fn.device ≤ g.J.Device.failure_count l.device;
 }
 

@@ -11,5 +11,7 @@ pub returns-clause-ok : goal.returns-clause-ok
 returns-clause-ok c =
     let from : c.min-from.result ≡ min c.args.length (length c.args.replica.now.log) = omega arith in
     steps_put (λ x. Record c.args.replica.now.commit_number x) (drop c.args.length c.args.replica.now.log) _ _
-    (subst (λ (l : List (LogEntry OpValue)). Puts (map (λ e. Step (Record c.args.replica.now.commit_number e)) l) c.args.batch.now c.put_records.new.batch)
-    (c.split_at.ensures.back ∙ ap₂ (λ (k : ℕ) (l : List (LogEntry OpValue)). drop k l) from c.as_slice.ensures ∙ drop_min c.args.length c.args.replica.now.log) c.in_ok-put_records.ensures.ok)
+    (subst (λ (l : List (LogEntry OpValue)). Puts (map (λ e. Step (Record c.args.replica.now.commit_number e)) l)
+    c.args.batch.now c.put_records.new.batch)
+    (c.split_at.ensures.back ∙ ap₂ (λ (k : ℕ) (l : List (LogEntry OpValue)). drop k l) from c.as_slice.ensures
+    ∙ drop_min c.args.length c.args.replica.now.log) c.in_ok-put_records.ensures.ok)

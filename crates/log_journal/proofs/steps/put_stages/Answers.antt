@@ -10,8 +10,11 @@ pub loop-entry-init : goal.loop-entry-init
 loop-entry-init c = none_put _
 
 pub loop-entry-preserved : goal.loop-entry-preserved
-loop-entry-preserved c = more_put (λ e. Step (Stage e)) c.args.entries.now c.loop-entry.entry-index c.entry-item.result _ _ _ (omega arith) c.loop-entry.invariant
-    (subst (λ (e : LogEntry OpValue). Puts (Step (Stage e) ∷ []) c.loop-entry.batch c.put_stage.new.batch) c.entry-item.is c.in_ok-put_stage.ensures.ok)
+loop-entry-preserved c = more_put (λ e. Step (Stage e)) c.args.entries.now c.loop-entry.entry-index
+    c.entry-item.result _ _ _ (omega arith) c.loop-entry.invariant
+    (subst (λ (e : LogEntry OpValue). Puts (Step (Stage e) ∷ []) c.loop-entry.batch c.put_stage.new.batch)
+    c.entry-item.is c.in_ok-put_stage.ensures.ok)
 
 pub returns-clause-ok : goal.returns-clause-ok
-returns-clause-ok c = all_put (λ e. Step (Stage e)) c.args.entries.now c.loop-entry.entry-index _ _ (omega arith) c.loop-entry.invariant
+returns-clause-ok c = all_put (λ e. Step (Stage e)) c.args.entries.now c.loop-entry.entry-index _ _ (omega arith)
+    c.loop-entry.invariant

@@ -10,7 +10,10 @@ use Rattle.log_journal.proofs.telling.take_adopt.Goals as goal
 pub returns-clause-taken : goal.returns-clause-taken
 returns-clause-taken c = record {
   note = Step (Adopt c.args.fields.now.first c.args.fields.now.second c.args.fields.now.third c.args.fields.now.fourth);
-  is = plain_at (fields_view c.args.fields.now) 5 _ _ _ _ (c.is_plain.ensures.plain (search rules)) c.requires refl refl refl refl;
+  is = plain_at (fields_view c.args.fields.now) 5 _ _ _ _ (c.is_plain.ensures.plain (search rules)) c.requires refl
+      refl refl refl;
   told = told_is _ _ refl refl refl refl refl refl
-      (sym (c.in_ok-replace_after.ensures.ok ∙ ap (λ (l : List (LogEntry OpValue)). take c.args.fields.now.third c.args.told.now.log ++ l) c.replace-staged.ensures.value)) (sym c.max-told.ensures) (sym (c.replace-staged.ensures.after ∙ c.new.ensures)) refl;
+      (sym (c.in_ok-replace_after.ensures.ok ∙ ap (λ (l : List (LogEntry OpValue)). take c.args.fields.now.third
+      c.args.told.now.log ++ l) c.replace-staged.ensures.value)) (sym c.max-told.ensures)
+      (sym (c.replace-staged.ensures.after ∙ c.new.ensures)) refl;
 }

@@ -7,6 +7,7 @@ use Rattle.log_journal.proofs.telling.take_begin.Goals as goal
 pub returns-clause-taken : goal.returns-clause-taken
 returns-clause-taken c = record {
   note = Begin c.args.fields.now.second c.args.fields.now.third c.args.fields.now.fourth;
-  is = plain_at (fields_view c.args.fields.now) 0 1 _ _ _ (c.is_plain.ensures.plain (search rules)) c.requires (omega arith) refl refl refl;
+  is = plain_at (fields_view c.args.fields.now) 0 1 _ _ _ (c.is_plain.ensures.plain (search rules)) c.requires
+      (omega arith) refl refl refl;
   told = refl;
 }

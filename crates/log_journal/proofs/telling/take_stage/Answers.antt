@@ -10,9 +10,11 @@ pub returns-clause-taken : goal.returns-clause-taken
 returns-clause-taken c = record {
   note = Step (Stage c.in_ok-entry.entry);
   is = subst (λ (k : ℕ). IsEntryIn k 0 c.in_ok-entry.entry (fields_view c.args.fields.now)) c.requires
-      (subst (λ (j : ℕ). IsEntryIn c.args.fields.now.kind j c.in_ok-entry.entry (fields_view c.args.fields.now)) (omega arith) c.in_ok-entry.ensures.entry);
+      (subst (λ (j : ℕ). IsEntryIn c.args.fields.now.kind j c.in_ok-entry.entry (fields_view c.args.fields.now))
+      (omega arith) c.in_ok-entry.ensures.entry);
   told = told_is _ _ refl refl refl refl refl refl refl refl (sym c.in_ok-push.ensures.ok) refl;
 }
 
 pub returns-in_err-entry-clause-damaged : goal.returns-in_err-entry-clause-damaged
-returns-in_err-entry-clause-damaged c = λ is. no_stage (fields_view c.args.fields.now) c.requires (λ e home h. c.in_err-entry.ensures.damaged (search rules) 4 0 e home h)
+returns-in_err-entry-clause-damaged c = λ is. no_stage (fields_view c.args.fields.now) c.requires
+    (λ e home h. c.in_err-entry.ensures.damaged (search rules) 4 0 e home h)

@@ -7,13 +7,15 @@ use Rattle.log_journal.proofs.telling.take_start.Goals as goal
 pub returns-in-0-clause-taken : goal.returns-in-0-clause-taken
 returns-in-0-clause-taken c = record {
   note = Start c.args.fields.now.first c.args.fields.now.second false;
-  is = plain_at (fields_view c.args.fields.now) 1 _ _ _ _ (c.is_plain.ensures.plain (search rules)) c.requires refl refl (omega arith) (omega arith);
+  is = plain_at (fields_view c.args.fields.now) 1 _ _ _ _ (c.is_plain.ensures.plain (search rules)) c.requires refl
+      refl (omega arith) (omega arith);
   told = sym c.start_empty.ensures;
 }
 
 pub returns-in-1-clause-taken : goal.returns-in-1-clause-taken
 returns-in-1-clause-taken c = record {
   note = Start c.args.fields.now.first c.args.fields.now.second true;
-  is = plain_at (fields_view c.args.fields.now) 1 _ _ _ _ (c.is_plain.ensures.plain (search rules)) c.requires refl refl (omega arith) (omega arith);
+  is = plain_at (fields_view c.args.fields.now) 1 _ _ _ _ (c.is_plain.ensures.plain (search rules)) c.requires refl
+      refl (omega arith) (omega arith);
   told = sym c.start.ensures;
 }

@@ -18,7 +18,8 @@ loop-given-preserved g c =
     let first = c.in-Some.given in
     let is = c.in-Some.ensures.steps.0 in (
       λ after t.
-          c.loop-given.invariant.0 after (subst (λ (l : List (Result (Outputs OpValue) AllocError)). TakesAll g.P.Peers.takes c.loop-given.peers (sends_of l) after) (sym is)
+          c.loop-given.invariant.0 after (subst (λ (l : List (Result (Outputs OpValue) AllocError)). TakesAll
+          g.P.Peers.takes c.loop-given.peers (sends_of l) after) (sym is)
           (takes_joined g.P.Peers.takes c.send_given-left_out.ensures.taken t)),
       omega (arith, c.loop-given.invariant.1, ap left_out is, c.send_given-left_out.ensures.left_out),
       omega (arith, c.loop-given.invariant.2, ap length is, c.send_given-left_out.ensures.left_out, once first),
@@ -26,12 +27,15 @@ loop-given-preserved g c =
 
 pub returns-clause-taken : goal.returns-clause-taken
 returns-clause-taken g c =
-    let nothing : c.loop-given.given-iterator.rest.items ≡ [] = nil_from_length c.loop-given.given-iterator.rest.items (omega (arith, c.in-None.ensures.steps.0)) in
-    c.loop-given.invariant.0 c.loop-given.peers (subst (λ (l : List (Result (Outputs OpValue) AllocError)). TakesAll g.P.Peers.takes c.loop-given.peers (sends_of l) c.loop-given.peers) (sym nothing) none)
+    let nothing : c.loop-given.given-iterator.rest.items ≡ [] = nil_from_length c.loop-given.given-iterator.rest.items
+    (omega (arith, c.in-None.ensures.steps.0)) in
+    c.loop-given.invariant.0 c.loop-given.peers (subst (λ (l : List (Result (Outputs OpValue) AllocError)). TakesAll
+    g.P.Peers.takes c.loop-given.peers (sends_of l) c.loop-given.peers) (sym nothing) none)
 
 pub returns-clause-left_out : goal.returns-clause-left_out
 returns-clause-left_out g c =
-    let nothing : c.loop-given.given-iterator.rest.items ≡ [] = nil_from_length c.loop-given.given-iterator.rest.items (omega (arith, c.in-None.ensures.steps.0)) in
+    let nothing : c.loop-given.given-iterator.rest.items ≡ [] = nil_from_length c.loop-given.given-iterator.rest.items
+    (omega (arith, c.in-None.ensures.steps.0)) in
     omega (arith, c.loop-given.invariant.1, ap left_out nothing)
 
 -- no more are left out than there were
@@ -39,4 +43,13 @@ pub overflow_add-left_out : goal.overflow_add-left_out
 overflow_add-left_out g c =
     let first = c.in-Some.given in
     let is = c.in-Some.ensures.steps.0 in
-    omega (arith, c.args.outputs.ok.0, c.args.outputs.ok.1, c.args.outputs.small, c.loop-given.invariant.2, ap length is, c.send_given-left_out.ensures.left_out, once first)
+    omega (
+      arith,
+      c.args.outputs.ok.0,
+      c.args.outputs.ok.1,
+      c.args.outputs.small,
+      c.loop-given.invariant.2,
+      ap length is,
+      c.send_given-left_out.ensures.left_out,
+      once first,
+    )

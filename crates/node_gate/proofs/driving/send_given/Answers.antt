@@ -7,4 +7,5 @@ use Rattle.node_gate.specs.Sent.{TakesAll, none}
 use Rattle.node_gate.proofs.driving.send_given.Goals as goal
 
 pub returns-in-Err-clause-taken : goal.returns-in-Err-clause-taken
-returns-in-Err-clause-taken g c = subst (λ (x : Result (Outputs OpValue) AllocError). TakesAll g.P.Peers.takes c.args.peers.now (sends_in x) c.args.peers.now) (sym c.in-Err.is) none
+returns-in-Err-clause-taken g c = subst (λ (x : Result (Outputs OpValue) AllocError). TakesAll g.P.Peers.takes
+    c.args.peers.now (sends_in x) c.args.peers.now) (sym c.in-Err.is) none

@@ -8,11 +8,15 @@ use Rattle.node_gate.proofs.peers.send_all.Goals as goal
 
 pub loop-send-preserved : goal.loop-send-preserved
 loop-send-preserved g c after t =
-    c.loop-send.invariant after (subst (λ (l : List (Send OpValue)). TakesAll g.P.Peers.takes c.loop-send.peers l after) (sym c.in-Some.ensures.steps.0)
+    c.loop-send.invariant after (subst (λ (l : List (Send OpValue)). TakesAll g.P.Peers.takes c.loop-send.peers l
+    after) (sym c.in-Some.ensures.steps.0)
     (next c.in-Some.send
-    (subst (λ (m : PeerMessage OpValue). g.P.Peers.takes c.loop-send.peers c.in-Some.send.to m c.send.new.self) c.into_message.ensures c.send.ensures) t))
+    (subst (λ (m : PeerMessage OpValue). g.P.Peers.takes c.loop-send.peers c.in-Some.send.to m c.send.new.self)
+    c.into_message.ensures c.send.ensures) t))
 
 pub returns : goal.returns
 returns g c =
-    let nothing : c.loop-send.send-iterator.rest.items ≡ [] = nil_from_length c.loop-send.send-iterator.rest.items (omega (arith, c.in-None.ensures.steps.0)) in
-    c.loop-send.invariant c.loop-send.peers (subst (λ (l : List (Send OpValue)). TakesAll g.P.Peers.takes c.loop-send.peers l c.loop-send.peers) (sym nothing) none)
+    let nothing : c.loop-send.send-iterator.rest.items ≡ [] = nil_from_length c.loop-send.send-iterator.rest.items
+    (omega (arith, c.in-None.ensures.steps.0)) in
+    c.loop-send.invariant c.loop-send.peers (subst (λ (l : List (Send OpValue)). TakesAll g.P.Peers.takes
+    c.loop-send.peers l c.loop-send.peers) (sym nothing) none)

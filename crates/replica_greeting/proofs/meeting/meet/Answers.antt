@@ -11,4 +11,5 @@ pub returns : goal.returns
 returns c =
     let same : c.in-Some.first.now ≡ take 13 c.args.frame.now = search rules in
     let rest : c.in-Some.behind.now ≡ drop 13 c.args.frame.now = search rules in
-    meets c.args.cluster c.args.frame.now c.in-Some.first.now c.in-Some.behind.now c.args.own.now c.in-Ok.heading c.meet_sender.result same rest c.in-Ok.ensures c.if-behind-heading.false c.meet_sender.ensures
+    meets c.args.cluster c.args.frame.now c.in-Some.first.now c.in-Some.behind.now c.args.own.now c.in-Ok.heading
+    c.meet_sender.result same rest c.in-Ok.ensures c.if-behind-heading.false c.meet_sender.ensures

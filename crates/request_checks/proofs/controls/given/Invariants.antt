@@ -7,5 +7,6 @@ use Rattle.request_checks.proofs.controls.given.Given as goal
 -- the control that was found, and those of the type that are left, are those of the type
 abbrev pub invariant-loop-control : goal.invariant-loop-control
 invariant-loop-control l =
-    option_to_list (option_map control_view (option_copied l.found)) ++ filter (is_of l.oid) (map control_view (drop l.control-index l.controls))
+    option_to_list (option_map control_view (option_copied l.found)) ++ filter (is_of l.oid)
+    (map control_view (drop l.control-index l.controls))
     ≡ filter (is_of l.oid) (map control_view l.controls)

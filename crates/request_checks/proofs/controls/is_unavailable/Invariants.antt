@@ -5,4 +5,5 @@ use Rattle.request_checks.proofs.controls.is_unavailable.Given as goal
 
 -- so far no control is critical without a meaning
 abbrev pub invariant-loop-control : goal.invariant-loop-control
-invariant-loop-control l = is_unavailable l.kind (map control_view (drop l.control-index l.controls)) ≡ is_unavailable l.kind (map control_view l.controls)
+invariant-loop-control l = is_unavailable l.kind (map control_view (drop l.control-index l.controls)) ≡ is_unavailable
+    l.kind (map control_view l.controls)

@@ -3,4 +3,5 @@ use Rattle.text_faults.proofs.Written.{begun_with}
 use Rattle.schema_faults.proofs.descriptions.second_kind.Goals as goal
 
 pub returns : goal.returns
-returns c = begun_with string_bytes c.format.result c.args.after.now (codes " behind ") c.args.before.now (codes ": a class has one kind") c.format.ensures.ok
+returns c = begun_with string_bytes c.format.result c.args.after.now (codes " behind ") c.args.before.now
+    (codes ": a class has one kind") c.format.ensures.ok

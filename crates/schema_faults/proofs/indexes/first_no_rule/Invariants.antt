@@ -4,4 +4,5 @@ use Rattle.schema_faults.proofs.indexes.first_no_rule.Given as goal
 
 abbrev pub invariant-loop-kind : goal.invariant-loop-kind
 invariant-loop-kind l =
-    first_no_rule l.schema l.type_id l.name (map (λ x. x.now) (drop l.kind-index l.kinds)) ≡ first_no_rule l.schema l.type_id l.name (map (λ x. x.now) l.kinds)
+    first_no_rule l.schema l.type_id l.name (map (λ x. x.now) (drop l.kind-index l.kinds)) ≡ first_no_rule l.schema
+    l.type_id l.name (map (λ x. x.now) l.kinds)

@@ -5,4 +5,5 @@ use Rattle.schema_faults.proofs.loops.is_one_calling.Given as goal
 
 abbrev pub invariant-loop-word : goal.invariant-loop-word
 invariant-loop-word l =
-    list_any (is_calling l.classes l.class) (map (λ v. v.items) (drop l.word-index l.words)) ≡ list_any (is_calling l.classes l.class) (map (λ v. v.items) l.words)
+    list_any (is_calling l.classes l.class) (map (λ v. v.items) (drop l.word-index l.words)) ≡
+    list_any (is_calling l.classes l.class) (map (λ v. v.items) l.words)

@@ -13,7 +13,8 @@ loop-index-preserved c =
         pieces =
             ends_piece _ _ _ _ c.loop-index.scan _ c.args.octets.now c.loop-index.index _ c.loop-index-test.true
             (ap (λ p. map (λ x. x.now) p.items) w.pieces-is ∙ w.in_ok-push_piece.ensures)
-            (ap (λ k. slice_range c.args.octets.now k (c.loop-index.index + 1)) w.start-is ∙ empty_range c.args.octets.now (c.loop-index.index + 1))
+            (ap (λ k. slice_range c.args.octets.now k (c.loop-index.index + 1)) w.start-is
+            ∙ empty_range c.args.octets.now (c.loop-index.index + 1))
             c.next_of-scan.ensures (cc) c.loop-index.invariant.pieces;
       }
       | else-is_break w ↦ record {
@@ -21,7 +22,9 @@ loop-index-preserved c =
         pieces =
             piece_goes_on _ _ _ _ c.loop-index.scan _ c.args.octets.now c.loop-index.index _ c.loop-index-test.true
             (ap (λ p. map (λ x. x.now) p.items) w.pieces-is)
-            (ap (λ k. slice_range c.args.octets.now k (c.loop-index.index + 1)) w.start-is ∙ longer_range c.args.octets.now c.loop-index.start c.loop-index.index c.loop-index.invariant.start c.loop-index-test.true)
+            (ap (λ k. slice_range c.args.octets.now k (c.loop-index.index + 1)) w.start-is
+            ∙ longer_range c.args.octets.now c.loop-index.start c.loop-index.index c.loop-index.invariant.start
+            c.loop-index-test.true)
             c.next_of-scan.ensures (cc) c.loop-index.invariant.pieces;
       }
     ]

@@ -5,6 +5,8 @@ use Rattle.schema_faults.proofs.repeats.again.Given as goal
 
 abbrev pub invariant-loop-name : goal.invariant-loop-name
 invariant-loop-name l = record {
-  seen : (q : List ℕ) → is_some (number_at l.seen.entries q) ≡ has_folded q (map (λ v. v.items) (take l.name-index l.names));
-  again : again (map (λ v. v.items) (take l.name-index l.names)) (map (λ v. v.items) (drop l.name-index l.names)) ≡ again [] (map (λ v. v.items) l.names);
+  seen : (q : List ℕ) → is_some (number_at l.seen.entries q) ≡ has_folded q
+      (map (λ v. v.items) (take l.name-index l.names));
+  again : again (map (λ v. v.items) (take l.name-index l.names)) (map (λ v. v.items) (drop l.name-index l.names)) ≡
+      again [] (map (λ v. v.items) l.names);
 }

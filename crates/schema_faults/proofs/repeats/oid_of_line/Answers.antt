@@ -4,5 +4,6 @@ use Rattle.schema_faults.proofs.repeats.oid_of_line.Goals as goal
 
 pub returns : goal.returns
 returns c =
-    two_words string_bytes c.format.result (codes "the object identifier ") _ _ (codes " is that of line ") (decimal c.args.line) (decimal c.args.line) (codes " too")
+    two_words string_bytes c.format.result (codes "the object identifier ") _ _ (codes " is that of line ")
+    (decimal c.args.line) (decimal c.args.line) (codes " too")
     c.in_ok-oid.ensures refl c.format.ensures.ok

@@ -4,4 +4,5 @@ use Rattle.schema_faults.proofs.Again.{line_put}
 use Rattle.schema_faults.proofs.repeats.put.Goals as goal
 
 pub returns : goal.returns
-returns c = λ q. ap (λ (l : List (Vec ℕ Global × ℕ)). number_at l q) c.in_ok-insert.ensures.entries ∙ line_put c.args.octets 0 c.args.seen.now.entries q
+returns c = λ q. ap (λ (l : List (Vec ℕ Global × ℕ)). number_at l q) c.in_ok-insert.ensures.entries
+    ∙ line_put c.args.octets 0 c.args.seen.now.entries q

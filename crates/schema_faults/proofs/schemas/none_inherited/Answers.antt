@@ -4,5 +4,6 @@ use Rattle.schema_faults.proofs.schemas.none_inherited.Goals as goal
 
 pub returns : goal.returns
 returns c =
-    two_words string_bytes c.format.result (codes "'") c.args.title.now c.args.title.now (codes "' has no EQUALITY, and none by its SUP '") _ _ (codes "'")
+    two_words string_bytes c.format.result (codes "'") c.args.title.now c.args.title.now
+    (codes "' has no EQUALITY, and none by its SUP '") _ _ (codes "'")
     refl c.in_ok-above.ensures c.format.ensures.ok

@@ -4,10 +4,24 @@ use Rattle.schema_laws.proofs.naming.pairs_are_attributes.Goals as goal
 
 pub returns-clause-pairs : goal.returns-clause-pairs
 returns-clause-pairs c =
-    let laws : KeyLaws = record { present = c.keys_compare.ensures.present; equal = c.keys_compare.ensures.equal; ordered = c.keys_compare.ensures.ordered; stand = c.parts_compare.ensures; told = c.name_keys_are_of_names.ensures } in
+    let laws : KeyLaws = record {
+      present = c.keys_compare.ensures.present;
+      equal = c.keys_compare.ensures.equal;
+      ordered = c.keys_compare.ensures.ordered;
+      stand = c.parts_compare.ensures;
+      told =
+          c.name_keys_are_of_names.ensures;
+    } in
     pairs_are_attributes (λ s r. keys_mean laws s r) c.texts_tell.ensures
 
 pub returns-clause-names : goal.returns-clause-names
 returns-clause-names c =
-    let laws : KeyLaws = record { present = c.keys_compare.ensures.present; equal = c.keys_compare.ensures.equal; ordered = c.keys_compare.ensures.ordered; stand = c.parts_compare.ensures; told = c.name_keys_are_of_names.ensures } in
+    let laws : KeyLaws = record {
+      present = c.keys_compare.ensures.present;
+      equal = c.keys_compare.ensures.equal;
+      ordered = c.keys_compare.ensures.ordered;
+      stand = c.parts_compare.ensures;
+      told =
+          c.name_keys_are_of_names.ensures;
+    } in
     names_are_attributes (λ s r. keys_mean laws s r) c.texts_tell.ensures

@@ -9,5 +9,8 @@ use Rattle.schema_meaning.proofs.called.keep_names.Goals as goal
 
 pub returns : goal.returns
 returns c q =
-    names_done (λ n. bytes_eq q (map to_ascii_lowercase n.items)) c.args.names.now _ (number_at c.loop-name.numbers.entries q) _ c.args.number (drop_of_length-le c.args.names.now c.loop-name-test.false) (c.loop-name.invariant q)
-    ∙ ap (λ b. kept_or (number_at c.args.numbers.now.entries q) b c.args.number) (sym (any_map (λ n. bytes_eq q (map to_ascii_lowercase n)) (λ v. v.items) c.args.names.now))
+    names_done (λ n. bytes_eq q (map to_ascii_lowercase n.items)) c.args.names.now _
+    (number_at c.loop-name.numbers.entries q) _ c.args.number (drop_of_length-le c.args.names.now
+    c.loop-name-test.false) (c.loop-name.invariant q)
+    ∙ ap (λ b. kept_or (number_at c.args.numbers.now.entries q) b c.args.number)
+    (sym (any_map (λ n. bytes_eq q (map to_ascii_lowercase n)) (λ v. v.items) c.args.names.now))

@@ -7,5 +7,7 @@ use Rattle.schema_meaning.proofs.called.keep_names.Given as goal
 
 abbrev pub invariant-loop-name : goal.invariant-loop-name
 invariant-loop-name l =
-    (q : List ℕ) → kept_or (number_at l.numbers.entries q) (list_any (λ n. bytes_eq q (map to_ascii_lowercase n.items)) (drop l.name-index l.names)) l.number
-    ≡ kept_or (number_at l.initial.numbers.entries q) (list_any (λ n. bytes_eq q (map to_ascii_lowercase n.items)) l.names) l.number
+    (q : List ℕ) → kept_or (number_at l.numbers.entries q)
+    (list_any (λ n. bytes_eq q (map to_ascii_lowercase n.items)) (drop l.name-index l.names)) l.number
+    ≡ kept_or (number_at l.initial.numbers.entries q) (list_any (λ n. bytes_eq q (map to_ascii_lowercase n.items))
+    l.names) l.number

@@ -8,6 +8,9 @@ use Rattle.schema_meaning.proofs.called.numbers_of.Goals as goal
 
 pub returns : goal.returns
 returns c =
-    found_either c.args.descriptions.now (number_at c.loop-number.by_name.entries) (number_at c.loop-number.by_oid.entries)
-    (λ q. numbers_done (λ (d : DescriptionModel). has_folded q (names_of d)) _ c.loop-number.number _ _ (drop_of_length-le c.args.descriptions.now c.loop-number-test.false) (c.loop-number.invariant.names q))
-    (λ q. numbers_done (λ (d : DescriptionModel). bytes_eq q d.oid) _ c.loop-number.number _ _ (drop_of_length-le c.args.descriptions.now c.loop-number-test.false) (c.loop-number.invariant.oids q))
+    found_either c.args.descriptions.now (number_at c.loop-number.by_name.entries)
+    (number_at c.loop-number.by_oid.entries)
+    (λ q. numbers_done (λ (d : DescriptionModel). has_folded q (names_of d)) _ c.loop-number.number _ _
+    (drop_of_length-le c.args.descriptions.now c.loop-number-test.false) (c.loop-number.invariant.names q))
+    (λ q. numbers_done (λ (d : DescriptionModel). bytes_eq q d.oid) _ c.loop-number.number _ _
+    (drop_of_length-le c.args.descriptions.now c.loop-number-test.false) (c.loop-number.invariant.oids q))

@@ -8,6 +8,8 @@ use Rattle.schema_meaning.proofs.called.numbers_of.Given as goal
 
 abbrev pub invariant-loop-number : goal.invariant-loop-number
 invariant-loop-number l = record {
-  names : (q : List ℕ) → or_else (number_at l.by_name.entries q) (position_from (λ d. has_folded q (names_of d)) l.number (drop l.number l.descriptions)) ≡ position_from (λ d. has_folded q (names_of d)) 0 l.descriptions;
-  oids : (q : List ℕ) → or_else (number_at l.by_oid.entries q) (position_from (λ d. bytes_eq q d.oid) l.number (drop l.number l.descriptions)) ≡ position_from (λ d. bytes_eq q d.oid) 0 l.descriptions;
+  names : (q : List ℕ) → or_else (number_at l.by_name.entries q) (position_from (λ d. has_folded q (names_of d))
+      l.number (drop l.number l.descriptions)) ≡ position_from (λ d. has_folded q (names_of d)) 0 l.descriptions;
+  oids : (q : List ℕ) → or_else (number_at l.by_oid.entries q) (position_from (λ d. bytes_eq q d.oid) l.number
+      (drop l.number l.descriptions)) ≡ position_from (λ d. bytes_eq q d.oid) 0 l.descriptions;
 }

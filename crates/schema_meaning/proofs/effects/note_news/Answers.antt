@@ -14,9 +14,11 @@ loop-number-smaller c =
 pub loop-number-preserved : goal.loop-number-preserved
 loop-number-preserved c =
     knows_news c.args.types.now c.loop-number.table.items c.in-Some.number c.in-Some.effect c.loop-number.invariant
-    (ap (λ (os : List (Option Effect)). new_effect c.args.types.now os c.in-Some.number) (sym c.as_slice.ensures.value) ∙ c.in-Some.ensures.1)
+    (ap (λ (os : List (Option Effect)). new_effect c.args.types.now os c.in-Some.number)
+    (sym c.as_slice.ensures.value) ∙ c.in-Some.ensures.1)
 
 pub returns : goal.returns
 returns c =
     has_all c.args.types.now c.loop-number.table.items c.loop-number.invariant
-    (subst (λ (os : List (Option Effect)). (t : ℕ) → t < length os → new_effect c.args.types.now os t ≡ None) c.as_slice.ensures.value c.in_default.ensures)
+    (subst (λ (os : List (Option Effect)). (t : ℕ) → t < length os → new_effect c.args.types.now os t ≡ None)
+    c.as_slice.ensures.value c.in_default.ensures)

@@ -3,4 +3,5 @@ use Rattle.schema_meaning.specs.Faults.{first_of_all, names_known_type}
 use Rattle.schema_meaning.proofs.faults.unknown_in_type.Given as goal
 
 abbrev pub invariant-loop-description : goal.invariant-loop-description
-invariant-loop-description l = first_of_all (λ d. not (names_known_type l.types d)) (drop l.description-index l.types) ≡ first_of_all (λ d. not (names_known_type l.types d)) l.types
+invariant-loop-description l = first_of_all (λ d. not (names_known_type l.types d))
+    (drop l.description-index l.types) ≡ first_of_all (λ d. not (names_known_type l.types d)) l.types

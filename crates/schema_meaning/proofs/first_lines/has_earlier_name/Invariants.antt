@@ -7,4 +7,7 @@ use Rattle.schema_meaning.proofs.first_lines.has_earlier_name.Given as goal
 
 abbrev pub invariant-loop-name : goal.invariant-loop-name
 invariant-loop-name l =
-    list_any (λ n. is_less (number_at l.lines.entries (map to_ascii_lowercase n)) l.line) (map (λ v. v.items) (drop l.name-index l.names)) ≡ list_any (λ n. is_less (number_at l.lines.entries (map to_ascii_lowercase n)) l.line) (map (λ v. v.items) l.names)
+    list_any (λ n. is_less (number_at l.lines.entries (map to_ascii_lowercase n)) l.line)
+    (map (λ v. v.items) (drop l.name-index l.names)) ≡
+    list_any (λ n. is_less (number_at l.lines.entries (map to_ascii_lowercase n)) l.line)
+    (map (λ v. v.items) l.names)

@@ -8,4 +8,5 @@ pub returns : goal.returns
 returns c = λ q.
     c.in_ok-put.ensures q
     ∙ noted_put (number_at c.args.lines.now.entries) c.args.octets.items q c.args.line c.lower_line-first.result
-    (c.lower_line-first.ensures ∙ ap (λ (o : Option ℕ). earlier_of c.args.line o) (c.number_of.ensures ∙ ap (number_at c.args.lines.now.entries) c.as_slice.ensures.value))
+    (c.lower_line-first.ensures ∙ ap (λ (o : Option ℕ). earlier_of c.args.line o) (c.number_of.ensures
+    ∙ ap (number_at c.args.lines.now.entries) c.as_slice.ensures.value))

@@ -7,6 +7,10 @@ use Rattle.schema_meaning.proofs.first_lines.note_all.Given as goal
 
 abbrev pub invariant-loop-description : goal.invariant-loop-description
 invariant-loop-description l = record {
-  names : (q : List ℕ) → first_line (λ d. has_folded q (names_of d)) (drop l.description-index l.descriptions) (number_at l.by_name.entries q) ≡ first_line (λ d. has_folded q (names_of d)) l.descriptions (number_at l.initial.by_name.entries q);
-  oids : (q : List ℕ) → first_line (λ d. bytes_eq q d.oid) (drop l.description-index l.descriptions) (number_at l.by_oid.entries q) ≡ first_line (λ d. bytes_eq q d.oid) l.descriptions (number_at l.initial.by_oid.entries q);
+  names : (q : List ℕ) → first_line (λ d. has_folded q (names_of d)) (drop l.description-index l.descriptions)
+      (number_at l.by_name.entries q) ≡ first_line (λ d. has_folded q (names_of d)) l.descriptions
+      (number_at l.initial.by_name.entries q);
+  oids : (q : List ℕ) → first_line (λ d. bytes_eq q d.oid) (drop l.description-index l.descriptions)
+      (number_at l.by_oid.entries q) ≡ first_line (λ d. bytes_eq q d.oid) l.descriptions
+      (number_at l.initial.by_oid.entries q);
 }

@@ -8,5 +8,7 @@ use Rattle.schema_meaning.proofs.first_lines.note_names.Given as goal
 
 abbrev pub invariant-loop-name : goal.invariant-loop-name
 invariant-loop-name l =
-    (q : List ℕ) → noted (list_any (λ n. bytes_eq q (map to_ascii_lowercase n.items)) (drop l.name-index l.names)) l.line (number_at l.lines.entries q)
-    ≡ noted (list_any (λ n. bytes_eq q (map to_ascii_lowercase n.items)) l.names) l.line (number_at l.initial.lines.entries q)
+    (q : List ℕ) → noted (list_any (λ n. bytes_eq q (map to_ascii_lowercase n.items)) (drop l.name-index l.names))
+    l.line (number_at l.lines.entries q)
+    ≡ noted (list_any (λ n. bytes_eq q (map to_ascii_lowercase n.items)) l.names) l.line
+    (number_at l.initial.lines.entries q)

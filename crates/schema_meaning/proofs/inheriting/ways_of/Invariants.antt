@@ -6,4 +6,5 @@ use Rattle.schema_meaning.proofs.inheriting.ways_of.Given as goal
 
 -- what is looked up so far, and what is left
 abbrev pub invariant-loop-description : goal.invariant-loop-description
-invariant-loop-description l = l.ways.items ++ map (λ d. way_by l.types (superior_text d)) (drop l.description-index l.types) ≡ ways_of l.types
+invariant-loop-description l = l.ways.items ++ map (λ d. way_by l.types (superior_text d))
+    (drop l.description-index l.types) ≡ ways_of l.types

@@ -4,4 +4,5 @@ use Rattle.schema_meaning.proofs.Before.{line_put}
 use Rattle.schema_meaning.proofs.octets.put.Goals as goal
 
 pub returns : goal.returns
-returns c = λ q. ap (λ (l : List (Vec ℕ Global × ℕ)). number_at l q) c.in_ok-insert.ensures.entries ∙ line_put c.args.octets c.args.number c.args.numbers.now.entries q
+returns c = λ q. ap (λ (l : List (Vec ℕ Global × ℕ)). number_at l q) c.in_ok-insert.ensures.entries
+    ∙ line_put c.args.octets c.args.number c.args.numbers.now.entries q

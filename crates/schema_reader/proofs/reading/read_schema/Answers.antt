@@ -11,5 +11,6 @@ returns-clause-refused c =
 
 pub returns-clause-found : goal.returns-clause-found
 returns-clause-found c =
-    subst (λ (x : SchemaTextModel). IfOk c.schema_of_descriptions.result (λ (s : SchemaModel). schema_of_lines x ≡ Ok s))
+    subst (λ (x : SchemaTextModel). IfOk c.schema_of_descriptions.result (λ (s : SchemaModel). schema_of_lines x ≡
+    Ok s))
     (c.in_ok-text.ensures ∙ ap read_text c.as_bytes.ensures.value) c.schema_of_descriptions.ensures.found

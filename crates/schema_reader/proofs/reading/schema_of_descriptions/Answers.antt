@@ -6,8 +6,10 @@ use Rattle.schema_reader.proofs.reading.schema_of_descriptions.Goals as goal
 
 pub returns-clause-found : goal.returns-clause-found
 returns-clause-found c =
-    subst (λ (x : SchemaTextModel). IfOk c.schema_of_indexed.result (λ (s : SchemaModel). schema_of_lines x ≡ Ok s)) c.in_ok-text.ensures c.schema_of_indexed.ensures.found
+    subst (λ (x : SchemaTextModel). IfOk c.schema_of_indexed.result (λ (s : SchemaModel). schema_of_lines x ≡ Ok s))
+    c.in_ok-text.ensures c.schema_of_indexed.ensures.found
 
 pub returns-clause-refused : goal.returns-clause-refused
 returns-clause-refused c =
-    subst (λ (x : SchemaTextModel). IfErr c.schema_of_indexed.result (λ e. IsRefusalOf (schema_of_lines x) e)) c.in_ok-text.ensures c.schema_of_indexed.ensures.refused
+    subst (λ (x : SchemaTextModel). IfErr c.schema_of_indexed.result (λ e. IsRefusalOf (schema_of_lines x) e))
+    c.in_ok-text.ensures c.schema_of_indexed.ensures.refused

@@ -9,7 +9,8 @@ pub of_parts-requires-clause-loopless : goal.of_parts-requires-clause-loopless
 of_parts-requires-clause-loopless c =
     loopless_of c.args.text.now c.in_ok-types.types.items c.in_ok-classes.classes.items
     (c.in_ok-types.ensures ∙ ap (λ (ds : List DescriptionModel). types_from ds 0 ds) c.types.ensures)
-    (sym (same_model (fault_of c.args.text.now) c.as_slice.ensures.value c.as_slice-2.ensures.value) ∙ c.in_ok-object_class.ensures.fine.0)
+    (sym (same_model (fault_of c.args.text.now) c.as_slice.ensures.value c.as_slice-2.ensures.value)
+    ∙ c.in_ok-object_class.ensures.fine.0)
 
 pub of_parts-requires-clause-known : goal.of_parts-requires-clause-known
 of_parts-requires-clause-known c = known_of c.args.text.now c.in_ok-classes.classes.items c.in_ok-classes.ensures
@@ -17,4 +18,5 @@ of_parts-requires-clause-known c = known_of c.args.text.now c.in_ok-classes.clas
 pub of_parts-requires-clause-object_class : goal.of_parts-requires-clause-object_class
 of_parts-requires-clause-object_class c =
     object_class_of (model c.in_ok-types.types.items c.in_ok-classes.classes.items) c.in_ok-object_class.object_class
-    (sym (same_model required_in c.as_slice.ensures.value c.as_slice-2.ensures.value) ∙ c.in_ok-object_class.ensures.fine.1)
+    (sym (same_model required_in c.as_slice.ensures.value c.as_slice-2.ensures.value)
+    ∙ c.in_ok-object_class.ensures.fine.1)

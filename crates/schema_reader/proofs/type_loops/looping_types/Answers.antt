@@ -6,4 +6,5 @@ use Rattle.schema_reader.proofs.type_loops.looping_types.Goals as goal
 pub returns : goal.returns
 returns c =
     marks_are c.args.types.now c.in_ok-steps.steps.items c.in_ok-marks.marks.items c.in_ok-steps.ensures
-    (c.in_ok-marks.ensures ∙ ap (λ (os : List (Option ℕ)). all_marked (replicate (length os) false) os) c.as_slice.ensures.value)
+    (c.in_ok-marks.ensures ∙ ap (λ (os : List (Option ℕ)). all_marked (replicate (length os) false) os)
+    c.as_slice.ensures.value)

@@ -2,7 +2,8 @@ use Rattle.std.proofs.Common.{ℕ, ◌-◌, List, length, map, take, ◌≡◌, 
 use Rattle.std.proofs.lemmas.List.{take-map, length-map}
 use Rattle.schema_text.proofs.text.but_last.Goals as goal
 
-mapped : {A B : Type 0} (f : A → B) (n : ℕ) (xs : List A) → n ≡ length xs - 1 → map f (take n xs) ≡ take (length (map f xs) - 1) (map f xs)
+mapped : {A B : Type 0} (f : A → B) (n : ℕ) (xs : List A) → n ≡ length xs - 1 → map f (take n xs) ≡
+    take (length (map f xs) - 1) (map f xs)
 mapped f n xs e =
     ap (λ k. map f (take k xs)) e
     ∙ sym (take-map f (length xs - 1) xs)

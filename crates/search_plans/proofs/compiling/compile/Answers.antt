@@ -13,27 +13,33 @@ pub returns-in-And-clause-sets : goal.returns-in-And-clause-sets
 returns-in-And-clause-sets c =
     let found = rw c.deref.ensures.value at c.every.ensures in
     if_ok_weaker _ _
-    (λ s h n. bounds_sets c.args.indexes.now (λ e. bound_value n e c.args.filter.now) True (is_decided c.args.indexes.now c.args.filter.now) s.must s.may c.sets_are_of_entries.ensures
-    ((side_of_and_true c.args.indexes.now _ c.args.filter.now c.in-And.filters s.must s.may c.in-And.is refl h).bounds n))
+    (λ s h n. bounds_sets c.args.indexes.now (λ e. bound_value n e c.args.filter.now) True
+    (is_decided c.args.indexes.now c.args.filter.now) s.must s.may c.sets_are_of_entries.ensures
+    ((side_of_and_true c.args.indexes.now _ c.args.filter.now c.in-And.filters s.must s.may c.in-And.is refl h).bounds
+    n))
     c.every.result found
 
 pub returns-in-And-clause-guides : goal.returns-in-And-clause-guides
 returns-in-And-clause-guides c =
     let found = rw c.deref.ensures.value at c.every.ensures in
     if_ok_weaker _ _
-    (λ s h n. bounds_guide c.args.indexes.now (λ e. bound_value n e c.args.filter.now) (is_decided c.args.indexes.now c.args.filter.now) s.must s.may c.sets_are_of_entries.ensures
-    ((side_of_and_true c.args.indexes.now _ c.args.filter.now c.in-And.filters s.must s.may c.in-And.is refl h).bounds n))
+    (λ s h n. bounds_guide c.args.indexes.now (λ e. bound_value n e c.args.filter.now) (is_decided c.args.indexes.now
+    c.args.filter.now) s.must s.may c.sets_are_of_entries.ensures
+    ((side_of_and_true c.args.indexes.now _ c.args.filter.now c.in-And.filters s.must s.may c.in-And.is refl h).bounds
+    n))
     c.every.result found
 
 pub returns-in-And-clause-entries : goal.returns-in-And-clause-entries
 returns-in-And-clause-entries c =
     let found = rw c.deref.ensures.value at c.every.ensures in
-    if_ok_weaker _ _ (λ s h. (side_of_and_true c.args.indexes.now _ c.args.filter.now c.in-And.filters s.must s.may c.in-And.is refl h).bounds) c.every.result found
+    if_ok_weaker _ _ (λ s h. (side_of_and_true c.args.indexes.now _ c.args.filter.now c.in-And.filters s.must s.may
+    c.in-And.is refl h).bounds) c.every.result found
 
 pub returns-in-And-clause-runs : goal.returns-in-And-clause-runs
 returns-in-And-clause-runs c =
     let found = rw c.deref.ensures.value at c.every.ensures in
-    if_ok_weaker _ _ (λ s h. (side_of_and_true c.args.indexes.now _ c.args.filter.now c.in-And.filters s.must s.may c.in-And.is refl h).runs refl) c.every.result found
+    if_ok_weaker _ _ (λ s h. (side_of_and_true c.args.indexes.now _ c.args.filter.now c.in-And.filters s.must s.may
+    c.in-And.is refl h).runs refl) c.every.result found
 
 pub returns-in-And-clause-parts : goal.returns-in-And-clause-parts
 returns-in-And-clause-parts c =
@@ -42,32 +48,39 @@ returns-in-And-clause-parts c =
     (λ s h v is n e k.
     let both : bound.And c.in-And.filters ≡ bound.And v = sym c.in-And.is ∙ is in
     let same : c.in-And.filters ≡ v = and_parts_same c.in-And.filters v both in
-    subst (λ (w : Vec BoundFilter Global). DecidedAreTrue c.args.indexes.now n e w.items) same (parts_of_every c.args.indexes.now c.in-And.filters.items s.must s.may h n e k))
+    subst (λ (w : Vec BoundFilter Global). DecidedAreTrue c.args.indexes.now n e w.items) same
+    (parts_of_every c.args.indexes.now c.in-And.filters.items s.must s.may h n e k))
     c.every.result found
 
 pub returns-in-And-clause-filters : goal.returns-in-And-clause-filters
 returns-in-And-clause-filters c =
     let found = rw c.deref.ensures.value at c.every.ensures in
     if_ok_weaker _ _
-    (λ s h m t stands made. planned c.sets_are_of_entries.ensures c.tests_are_items.ensures m c.args.indexes.now t c.args.filter.now s.must s.may
+    (λ s h m t stands made. planned c.sets_are_of_entries.ensures c.tests_are_items.ensures m c.args.indexes.now t
+    c.args.filter.now s.must s.may
     (side_of_and_true c.args.indexes.now _ c.args.filter.now c.in-And.filters s.must s.may c.in-And.is refl h)
     (λ v is n e k.
     let both : bound.And c.in-And.filters ≡ bound.And v = sym c.in-And.is ∙ is in
     let same : c.in-And.filters ≡ v = and_parts_same c.in-And.filters v both in
-    subst (λ (w : Vec BoundFilter Global). DecidedAreTrue c.args.indexes.now n e w.items) same (parts_of_every c.args.indexes.now c.in-And.filters.items s.must s.may h n e k))
+    subst (λ (w : Vec BoundFilter Global). DecidedAreTrue c.args.indexes.now n e w.items) same
+    (parts_of_every c.args.indexes.now c.in-And.filters.items s.must s.may h n e k))
     stands made)
     c.every.result found
 
 pub returns-in_default : goal.returns-in_default
 returns-in_default c = record {
   sets = if_ok_weaker _ _
-      (λ s h n. bounds_sets c.args.indexes.now (λ e. bound_value n e c.args.filter.now) True (is_decided c.args.indexes.now c.args.filter.now) s.must s.may c.sets_are_of_entries.ensures (h.bounds n))
+      (λ s h n. bounds_sets c.args.indexes.now (λ e. bound_value n e c.args.filter.now) True
+      (is_decided c.args.indexes.now c.args.filter.now) s.must s.may c.sets_are_of_entries.ensures (h.bounds n))
       c.side.result c.side.ensures;
   guides = if_ok_weaker _ _
-      (λ s h n. bounds_guide c.args.indexes.now (λ e. bound_value n e c.args.filter.now) (is_decided c.args.indexes.now c.args.filter.now) s.must s.may c.sets_are_of_entries.ensures (h.bounds n))
+      (λ s h n. bounds_guide c.args.indexes.now (λ e. bound_value n e c.args.filter.now)
+      (is_decided c.args.indexes.now c.args.filter.now) s.must s.may c.sets_are_of_entries.ensures (h.bounds n))
       c.side.result c.side.ensures;
   entries = if_ok_weaker _ _ (λ s h. h.bounds) c.side.result c.side.ensures;
   parts = if_ok_weaker _ _ (λ s h v is n e k. absurd (c.in_default.not-And v is)) c.side.result c.side.ensures;
   runs = if_ok_weaker _ _ (λ s h. h.runs refl) c.side.result c.side.ensures;
-  filters = if_ok_weaker _ _ (λ s h m t stands made. planned c.sets_are_of_entries.ensures c.tests_are_items.ensures m c.args.indexes.now t c.args.filter.now s.must s.may h (λ v is n e k. absurd (c.in_default.not-And v is)) stands made) c.side.result c.side.ensures;
+  filters = if_ok_weaker _ _ (λ s h m t stands made. planned c.sets_are_of_entries.ensures c.tests_are_items.ensures m
+      c.args.indexes.now t c.args.filter.now s.must s.may h (λ v is n e k. absurd (c.in_default.not-And v is)) stands
+      made) c.side.result c.side.ensures;
 }

@@ -9,9 +9,11 @@ use Rattle.search_plans.proofs.containing.+contains.Goals as goal
 pub is_member-returns-in-Union : goal.is_member-returns-in-Union
 is_member-returns-in-Union g t c =
     let found = rw c.deref.ensures.value at c.in_any.ensures in
-    found ∙ sym (ap (λ (p : Plan). is_in_when (g.K.PostingLists.lists c.args.kept.now) c.args.in_scope p c.args.number) c.in-Union.is ∙ in_plan-Union _ _ _ c.in-Union.plans ∙ any_map _ _ c.in-Union.plans.items)
+    found ∙ sym (ap (λ (p : Plan). is_in_when (g.K.PostingLists.lists c.args.kept.now) c.args.in_scope p
+    c.args.number) c.in-Union.is ∙ in_plan-Union _ _ _ c.in-Union.plans ∙ any_map _ _ c.in-Union.plans.items)
 
 pub is_member-returns-in-Inter : goal.is_member-returns-in-Inter
 is_member-returns-in-Inter g t c =
     let found = rw c.deref-in-Inter.ensures.value at c.in_all.ensures in
-    found ∙ sym (ap (λ (p : Plan). is_in_when (g.K.PostingLists.lists c.args.kept.now) c.args.in_scope p c.args.number) c.in-Inter.is ∙ in_plan-Inter _ _ _ c.in-Inter.plans ∙ list_all-map _ _ c.in-Inter.plans.items)
+    found ∙ sym (ap (λ (p : Plan). is_in_when (g.K.PostingLists.lists c.args.kept.now) c.args.in_scope p
+    c.args.number) c.in-Inter.is ∙ in_plan-Inter _ _ _ c.in-Inter.plans ∙ list_all-map _ _ c.in-Inter.plans.items)

@@ -10,7 +10,8 @@ pub push_walks-returns-in-Scope-clause-gathers : goal.push_walks-returns-in-Scop
 push_walks-returns-in-Scope-clause-gathers g t c =
     on_ok_weaker _ _
     (λ h. gathers_all _ c.args.scope.now _ _ _ h
-    (λ n. ap (λ (p : Plan). is_in (g.K.PostingLists.lists c.args.kept.now) c.args.scope.now p n) c.in-Scope.is ∙ in_plan-Scope _ _ _))
+    (λ n. ap (λ (p : Plan). is_in (g.K.PostingLists.lists c.args.kept.now) c.args.scope.now p n) c.in-Scope.is
+    ∙ in_plan-Scope _ _ _))
     c.push_scope.result c.push_scope.ensures.gathers
 
 pub push_walks-returns-in-Posting-clause-gathers : goal.push_walks-returns-in-Posting-clause-gathers
@@ -18,14 +19,16 @@ push_walks-returns-in-Posting-clause-gathers g t c =
     let found = rw c.numbers.ensures at c.push_set.ensures.gathers in
     on_ok_weaker _ _
     (λ h. gathers_all _ c.args.scope.now _ _ _ h
-    (λ n. ap (λ (p : Plan). is_in (g.K.PostingLists.lists c.args.kept.now) c.args.scope.now p n) c.in-Posting.is ∙ in_plan-Posting _ _ _ c.in-Posting.posting))
+    (λ n. ap (λ (p : Plan). is_in (g.K.PostingLists.lists c.args.kept.now) c.args.scope.now p n) c.in-Posting.is
+    ∙ in_plan-Posting _ _ _ c.in-Posting.posting))
     c.push_set.result found
 
 pub push_walks-returns-in-Range-clause-gathers : goal.push_walks-returns-in-Range-clause-gathers
 push_walks-returns-in-Range-clause-gathers g t c =
     on_ok_weaker _ _
     (λ h. gathers_all _ c.args.scope.now _ _ _ h
-    (λ n. ap (λ (p : Plan). is_in (g.K.PostingLists.lists c.args.kept.now) c.args.scope.now p n) c.in-Range.is ∙ in_plan-Range _ _ _ c.in-Range.range))
+    (λ n. ap (λ (p : Plan). is_in (g.K.PostingLists.lists c.args.kept.now) c.args.scope.now p n) c.in-Range.is
+    ∙ in_plan-Range _ _ _ c.in-Range.range))
     c.push_range.result c.push_range.ensures.gathers
 
 pub push_walks-returns-in-Union-clause-gathers : goal.push_walks-returns-in-Union-clause-gathers
@@ -33,7 +36,8 @@ push_walks-returns-in-Union-clause-gathers g t c =
     let found = rw c.deref.ensures.value at c.push_each.ensures.gathers in
     on_ok_weaker _ _
     (λ h. gathers_weaker _ _ c.args.scope.now _ _
-    (λ n k. sym (ap (λ (p : Plan). is_in (g.K.PostingLists.lists c.args.kept.now) c.args.scope.now p n) c.in-Union.is ∙ in_plan-Union _ _ _ c.in-Union.plans ∙ any_map _ _ c.in-Union.plans.items) ∙ k) h)
+    (λ n k. sym (ap (λ (p : Plan). is_in (g.K.PostingLists.lists c.args.kept.now) c.args.scope.now p n) c.in-Union.is
+    ∙ in_plan-Union _ _ _ c.in-Union.plans ∙ any_map _ _ c.in-Union.plans.items) ∙ k) h)
     c.push_each.result found
 
 pub push_walks-returns-in-Inter-clause-gathers : goal.push_walks-returns-in-Inter-clause-gathers
@@ -41,7 +45,8 @@ push_walks-returns-in-Inter-clause-gathers g t c =
     let found = rw c.deref-in-Inter.ensures.value at c.push_one.ensures.gathers in
     on_ok_weaker _ _
     (λ h. gathers_weaker _ _ c.args.scope.now _ _
-    (λ n k. sym (ap (λ (p : Plan). is_in (g.K.PostingLists.lists c.args.kept.now) c.args.scope.now p n) c.in-Inter.is ∙ in_plan-Inter _ _ _ c.in-Inter.plans ∙ list_all-map _ _ c.in-Inter.plans.items) ∙ k) h)
+    (λ n k. sym (ap (λ (p : Plan). is_in (g.K.PostingLists.lists c.args.kept.now) c.args.scope.now p n) c.in-Inter.is
+    ∙ in_plan-Inter _ _ _ c.in-Inter.plans ∙ list_all-map _ _ c.in-Inter.plans.items) ∙ k) h)
     c.push_one.result found
 
 pub push_one-returns-then-i-best-clause-gathers : goal.push_one-returns-then-i-best-clause-gathers
@@ -49,7 +54,9 @@ push_one-returns-then-i-best-clause-gathers g t c =
     let found = rw c.loop-i.invariant at c.push_walks.ensures.gathers in
     on_ok_weaker _ _
     (λ h. gathers_weaker _ _ c.args.scope.now _ _
-    (λ n k. ap (λ (p : Plan). is_in (g.K.PostingLists.lists c.args.kept.now) c.args.scope.now p n) c.index-plans-i.is ∙ all_at (λ (p : Plan). is_in (g.K.PostingLists.lists c.args.kept.now) c.args.scope.now p n) c.args.plans.now c.loop-i.i c.index-plans-i.result c.loop-i-test.true k) h)
+    (λ n k. ap (λ (p : Plan). is_in (g.K.PostingLists.lists c.args.kept.now) c.args.scope.now p n) c.index-plans-i.is
+    ∙ all_at (λ (p : Plan). is_in (g.K.PostingLists.lists c.args.kept.now) c.args.scope.now p n) c.args.plans.now
+    c.loop-i.i c.index-plans-i.result c.loop-i-test.true k) h)
     c.push_walks.result found
 
 pub push_one-returns-clause-gathers : goal.push_one-returns-clause-gathers

@@ -7,7 +7,8 @@ use Rattle.search_plans.proofs.gathering.+gather.Given as goal
 
 abbrev pub invariant-push_each-loop-plan : goal.invariant-push_each-loop-plan
 invariant-push_each-loop-plan g l = record {
-  gathers : Gathers (λ n. list_any (λ p. is_in (g.K.PostingLists.lists l.kept) l.scope p n) (take l.plan-index l.plans)) l.scope l.fn.into.items l.into.items;
+  gathers : Gathers (λ n. list_any (λ p. is_in (g.K.PostingLists.lists l.kept) l.scope p n)
+      (take l.plan-index l.plans)) l.scope l.fn.into.items l.into.items;
   rising : AreRising l.fn.into.items → AreRising l.into.items;
 }
 

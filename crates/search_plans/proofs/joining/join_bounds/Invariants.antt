@@ -7,6 +7,7 @@ use Rattle.search_plans.proofs.joining.join_bounds.Given as goal
 
 abbrev pub invariant-loop-i : goal.invariant-loop-i
 invariant-loop-i l = record {
-  same : (ix : List Kinds) (e : List KeyedAttribute) → list_all (holds ix e) l.plans.items ≡ list_all (holds ix e) l.fn.plans.items;
+  same : (ix : List Kinds) (e : List KeyedAttribute) → list_all (holds ix e) l.plans.items ≡ list_all (holds ix e)
+      l.fn.plans.items;
   within : l.first ≤ length l.plans.items;
 }

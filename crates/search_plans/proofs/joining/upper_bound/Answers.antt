@@ -2,4 +2,5 @@ use Rattle.search_plans.proofs.Joined.{implied_by_one}
 use Rattle.search_plans.proofs.joining.upper_bound.Goals as goal
 
 pub returns-then-is_some-clause-implied : goal.returns-then-is_some-clause-implied
-returns-then-is_some-clause-implied c = implied_by_one c.args.plans.now c.loop-plan.plan-index c.plan-item.result _ c.loop-plan-test.true c.plan-item.is c.in-Some.ensures
+returns-then-is_some-clause-implied c = implied_by_one c.args.plans.now c.loop-plan.plan-index c.plan-item.result _
+    c.loop-plan-test.true c.plan-item.is c.in-Some.ensures

@@ -10,5 +10,7 @@ returns-in-Unknown-clause-bounds c = unknown_true c.args.indexes.now c.args.leaf
 
 pub returns-then-kinds-clause-bounds : goal.returns-then-kinds-clause-bounds
 returns-then-kinds-clause-bounds c =
-    let kept : (kinds_of c.args.indexes.now c.args.leaf.now.type_id).substrings ≡ true = sym (ap (λ (k : Kinds). k.substrings) c.kinds-kinds.ensures) ∙ c.if-kinds.true in
-    if_ok_weaker _ _ (λ p h. run_bounds c.args.indexes.now c.args.leaf.now c.in-Parts.parts p c.in-Parts.is (h c.args.indexes.now kept)) c.possible_by_runs.result c.possible_by_runs.ensures
+    let kept : (kinds_of c.args.indexes.now c.args.leaf.now.type_id).substrings ≡ true =
+    sym (ap (λ (k : Kinds). k.substrings) c.kinds-kinds.ensures) ∙ c.if-kinds.true in
+    if_ok_weaker _ _ (λ p h. run_bounds c.args.indexes.now c.args.leaf.now c.in-Parts.parts p c.in-Parts.is
+    (h c.args.indexes.now kept)) c.possible_by_runs.result c.possible_by_runs.ensures

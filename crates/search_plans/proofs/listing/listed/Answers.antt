@@ -7,7 +7,8 @@ use Rattle.search_plans.proofs.Rising.{any_map}
 use Rattle.search_plans.proofs.listing.listed.Goals as goal
 
 pub returns-clause-same : goal.returns-clause-same
-returns-clause-same g c = c.in_ok-push_listed.ensures.same c.if-not-branch.false (g.K.PostingLists.lists c.args.kept.now)
+returns-clause-same g c = c.in_ok-push_listed.ensures.same c.if-not-branch.false
+    (g.K.PostingLists.lists c.args.kept.now)
 
 pub returns-clause-exact : goal.returns-clause-exact
 returns-clause-exact g c = λ scope n.
@@ -18,4 +19,5 @@ returns-clause-exact g c = λ scope n.
     ∙ ap (list_any (has_number n)) sets
     ∙ any_map (has_number n) (λ p. (g.K.PostingLists.lists c.args.kept.now).posting p.now) c.push_listed.new.into.items
     ∙ c.in_ok-push_listed.ensures.exact c.if-not-branch.false (g.K.PostingLists.lists c.args.kept.now) scope n
-    ∙ ap (λ ps. list_any (λ p. is_listed (g.K.PostingLists.lists c.args.kept.now) n p.now) ps || is_in (g.K.PostingLists.lists c.args.kept.now) scope c.args.one.now n) c.new-postings.ensures.items
+    ∙ ap (λ ps. list_any (λ p. is_listed (g.K.PostingLists.lists c.args.kept.now) n p.now) ps || is_in
+    (g.K.PostingLists.lists c.args.kept.now) scope c.args.one.now n) c.new-postings.ensures.items

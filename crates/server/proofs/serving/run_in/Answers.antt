@@ -17,20 +17,27 @@ use Rattle.server.proofs.serving.run_in.Goals as goal
 pub run-requires-send-D : goal.run-requires-send-D
 run-requires-send-D g c κs within =
     let s : IsSync g.row.R = search (rules, c.requires-raw) parts 8 in
-    let w : (a b d : NamedLft) (i : NodeIdentity.Ghosts (Param.param 2 g.row.I).Denot) → IsSend (NodeGate.the_row a b (Param.param 0 g.row.R) FileDevice.the_row JournalFile.the_row (Param.param 2 g.row.I) (PeerQueuesAt.the_row d (Param.param 0 g.row.R)) DeviceRule.ghosts JournalRule.ghosts i) =
+    let w : (a b d : NamedLft) (i : NodeIdentity.Ghosts (Param.param 2 g.row.I).Denot) →
+    IsSend (NodeGate.the_row a b (Param.param 0 g.row.R) FileDevice.the_row JournalFile.the_row
+    (Param.param 2 g.row.I) (PeerQueuesAt.the_row d (Param.param 0 g.row.R)) DeviceRule.ghosts
+    JournalRule.ghosts i) =
     λ a b d i. way_send (Param.param 2 g.row.I) i a b d (Param.param 0 g.row.R) (param_sync 0 g.row.R s) in
     search (w, seat_send, sendable) depth 40
 
 pub run-requires-send-U : goal.run-requires-send-U
 run-requires-send-U g c κs within =
     let s : IsSync g.row.R = search (rules, c.requires-raw) parts 8 in
-    let w : (a b d : NamedLft) (i : NodeIdentity.Ghosts (Param.param 2 g.row.I).Denot) → IsSend (NodeGate.the_row a b (Param.param 0 g.row.R) FileDevice.the_row JournalFile.the_row (Param.param 2 g.row.I) (PeerQueuesAt.the_row d (Param.param 0 g.row.R)) DeviceRule.ghosts JournalRule.ghosts i) =
+    let w : (a b d : NamedLft) (i : NodeIdentity.Ghosts (Param.param 2 g.row.I).Denot) →
+    IsSend (NodeGate.the_row a b (Param.param 0 g.row.R) FileDevice.the_row JournalFile.the_row
+    (Param.param 2 g.row.I) (PeerQueuesAt.the_row d (Param.param 0 g.row.R)) DeviceRule.ghosts
+    JournalRule.ghosts i) =
     λ a b d i. way_send (Param.param 2 g.row.I) i a b d (Param.param 0 g.row.R) (param_sync 0 g.row.R s) in
     search (w, no_reads_send, sendable) depth 40
 
 pub run-requires-sync-E : goal.run-requires-sync-E
 run-requires-sync-E g c κs within =
     let s : IsSync g.row.R = search (rules, c.requires-raw) parts 8 in
-    let e : (a b : NamedLft) (i : NodeIdentity.Ghosts (Param.param 2 g.row.I).Denot) → IsSync (TimedNode.the_row a b (Param.param 0 g.row.R) (Param.param 2 g.row.I) i) =
+    let e : (a b : NamedLft) (i : NodeIdentity.Ghosts (Param.param 2 g.row.I).Denot) →
+    IsSync (TimedNode.the_row a b (Param.param 0 g.row.R) (Param.param 2 g.row.I) i) =
     λ a b i. clockwork_sync (Param.param 2 g.row.I) i a b (Param.param 0 g.row.R) (param_sync 0 g.row.R s) in
     search (e, sendable) depth 20

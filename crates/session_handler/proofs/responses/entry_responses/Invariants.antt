@@ -9,6 +9,8 @@ use Rattle.session_handler.proofs.responses.entry_responses.Given as goal
 abbrev pub invariant-loop-entry : goal.invariant-loop-entry
 invariant-loop-entry l =
     (total l.lengths.items ≡ length l.octets.items)
-    × (cut l.lengths.items l.octets.items ++ map message_bytes (entry_messages l.fn.id (map found_view (drop l.entry-index l.entry-items)))
+    × (cut l.lengths.items l.octets.items ++ map message_bytes
+    (entry_messages l.fn.id (map found_view (drop l.entry-index l.entry-items)))
     ≡ map message_bytes (entry_messages l.fn.id (map found_view l.fn.entries.items)))
-    × (HasTooLong (entry_messages l.fn.id (map found_view (drop l.entry-index l.entry-items))) → HasTooLong (entry_messages l.fn.id (map found_view l.fn.entries.items)))
+    × (HasTooLong (entry_messages l.fn.id (map found_view (drop l.entry-index l.entry-items))) →
+    HasTooLong (entry_messages l.fn.id (map found_view l.fn.entries.items)))

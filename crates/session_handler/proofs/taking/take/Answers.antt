@@ -3,10 +3,12 @@ use Rattle.session_handler.proofs.Turning.{said_is_done, answered, inquired}
 use Rattle.session_handler.proofs.taking.take.Goals as goal
 
 pub returns-in-NoRequest : goal.returns-in-NoRequest
-returns-in-NoRequest g c = answered _ _ _ _ _ _ _ _ (c.in-NoRequest.ensures c.args.state.now) (said_is_done _ _ _ refl c.disconnect.ensures)
+returns-in-NoRequest g c = answered _ _ _ _ _ _ _ _ (c.in-NoRequest.ensures c.args.state.now)
+    (said_is_done _ _ _ refl c.disconnect.ensures)
 
 pub returns-in-Silence : goal.returns-in-Silence
-returns-in-Silence g c = answered _ _ _ _ _ _ _ _ (c.in-Silence.ensures c.args.state.now) (said_is_done _ _ _ refl c.silence.ensures)
+returns-in-Silence g c = answered _ _ _ _ _ _ _ _ (c.in-Silence.ensures c.args.state.now)
+    (said_is_done _ _ _ refl c.silence.ensures)
 
 pub returns-in-Refusal : goal.returns-in-Refusal
 returns-in-Refusal g c = answered _ _ _ _ _ _ _ _ (c.in-Refusal.ensures c.args.state.now) c.refuse.ensures

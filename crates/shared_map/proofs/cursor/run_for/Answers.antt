@@ -11,7 +11,8 @@ returns-then-reaches g c =
     record {
       at = c.requires;
       rises = part_rises g.K.Ord.cmp c.args.map.now c.args.run.now c.requires.rising p;
-      value = ap (lookup (is_at (g.K.Ord.cmp c.args.key.now))) p.is ∙ c.if-reaches.ensures refl p.before p.after (subst (Rises g.K.Ord.cmp) p.is c.requires.rising);
+      value = ap (lookup (is_at (g.K.Ord.cmp c.args.key.now))) p.is ∙ c.if-reaches.ensures refl p.before p.after
+          (subst (Rises g.K.Ord.cmp) p.is c.requires.rising);
     }
 
 pub returns-else-reaches : goal.returns-else-reaches

@@ -8,18 +8,21 @@ pub leaf-requires : goal.leaf-requires
 leaf-requires g c =
     let es = c.args.items.now in
     let at = c.args.at in
-    subst (Rises g.K.Ord.cmp) (sym c.in_ok-copied.ensures) (rises_front g.K.Ord.cmp (take at es) (drop at es) (subst (Rises g.K.Ord.cmp) (sym (take-append-drop at es)) c.requires.rises))
+    subst (Rises g.K.Ord.cmp) (sym c.in_ok-copied.ensures) (rises_front g.K.Ord.cmp (take at es) (drop at es)
+    (subst (Rises g.K.Ord.cmp) (sym (take-append-drop at es)) c.requires.rises))
 
 pub leaf-requires-2 : goal.leaf-requires-2
 leaf-requires-2 g c =
     let es = c.args.items.now in
     let at = c.args.at in
-    subst (Rises g.K.Ord.cmp) (sym (c.in_ok-copied-2.ensures ∙ rest_is at es)) (rises_back g.K.Ord.cmp (take at es) (drop at es) (subst (Rises g.K.Ord.cmp) (sym (take-append-drop at es)) c.requires.rises))
+    subst (Rises g.K.Ord.cmp) (sym (c.in_ok-copied-2.ensures ∙ rest_is at es)) (rises_back g.K.Ord.cmp (take at es)
+    (drop at es) (subst (Rises g.K.Ord.cmp) (sym (take-append-drop at es)) c.requires.rises))
 
 pub fork-requires-clause-parted : goal.fork-requires-clause-parted
 fork-requires-clause-parted g c =
     let es = c.args.items.now in
     let at = c.args.at in
-    moved (parted_at g.K.Ord.cmp g.met.K.Ord.total es at c.index-items-at.result c.requires.rises c.requires.some_left c.requires.some_right)
+    moved (parted_at g.K.Ord.cmp g.met.K.Ord.total es at c.index-items-at.result c.requires.rises c.requires.some_left
+    c.requires.some_right)
     (ap (λ d. d.0) c.in_ok-left.ensures ∙ c.in_ok-copied.ensures) c.in_ok-key.ensures
     (ap (λ d. d.0) c.in_ok-right.ensures ∙ c.in_ok-copied-2.ensures ∙ rest_is at es)

@@ -5,7 +5,9 @@ use Rattle.status_page.proofs.metrics.batches.Goals as goal
 
 pub returns : goal.returns
 returns c =
-    figure_of string_bytes c.figure.result (codes "dird_batch_seconds") (codes "How long batches of events took with a journal, in seconds: their steps, a write and a sync.") (codes "histogram")
+    figure_of string_bytes c.figure.result (codes "dird_batch_seconds")
+    (codes "How long batches of events took with a journal, in seconds: their steps, a write and a sync.")
+    (codes "histogram")
     c.deref.result.now (histogram_samples (codes "dird_batch_seconds") [] [] c.args.times.now.batches)
     (c.deref.ensures ∙ c.in_ok-samples.ensures)
     c.figure.ensures

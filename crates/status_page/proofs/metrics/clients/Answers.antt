@@ -5,5 +5,6 @@ use Rattle.status_page.proofs.metrics.clients.Goals as goal
 pub returns : goal.returns
 returns c =
     written_as string_bytes c.format.result _ _
-    (five _ _ _ _ _ _ _ _ _ _ c.in_ok-memory.ensures c.in_ok-limit.ensures c.in_ok-ended.ensures c.in_ok-most.ensures c.in_ok-evicted.ensures)
+    (five _ _ _ _ _ _ _ _ _ _ c.in_ok-memory.ensures c.in_ok-limit.ensures c.in_ok-ended.ensures c.in_ok-most.ensures
+    c.in_ok-evicted.ensures)
     c.format.ensures.ok

@@ -5,5 +5,6 @@ use Rattle.status_page.proofs.metrics.counted.Goals as goal
 pub returns : goal.returns
 returns c =
     written_as string_bytes c.format.result _ _
-    (five _ _ _ _ _ _ _ _ _ _ c.in_ok-answers.ensures c.in_ok-load.ensures c.in_ok-peers.ensures c.in_ok-times.ensures c.in_ok-process.ensures)
+    (five _ _ _ _ _ _ _ _ _ _ c.in_ok-answers.ensures c.in_ok-load.ensures c.in_ok-peers.ensures c.in_ok-times.ensures
+    c.in_ok-process.ensures)
     c.format.ensures.ok

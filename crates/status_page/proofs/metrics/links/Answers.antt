@@ -5,5 +5,6 @@ use Rattle.status_page.proofs.metrics.links.Goals as goal
 pub returns : goal.returns
 returns c =
     written_as string_bytes c.format.result _ _
-    (four _ _ _ _ _ _ _ _ c.in_ok-connected.ensures c.in_ok-heard.ensures c.in_ok-octets_sent.ensures c.in_ok-octets_received.ensures)
+    (four _ _ _ _ _ _ _ _ c.in_ok-connected.ensures c.in_ok-heard.ensures c.in_ok-octets_sent.ensures
+    c.in_ok-octets_received.ensures)
     c.format.ensures.ok

@@ -5,5 +5,6 @@ use Rattle.status_page.proofs.metrics.messages.Goals as goal
 pub returns : goal.returns
 returns c =
     written_as string_bytes c.format.result _ _
-    (four _ _ _ _ _ _ _ _ c.in_ok-queued.ensures c.in_ok-sent.ensures c.in_ok-acknowledged.ensures c.in_ok-refused.ensures)
+    (four _ _ _ _ _ _ _ _ c.in_ok-queued.ensures c.in_ok-sent.ensures c.in_ok-acknowledged.ensures
+    c.in_ok-refused.ensures)
     c.format.ensures.ok

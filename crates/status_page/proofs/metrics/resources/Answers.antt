@@ -5,5 +5,6 @@ use Rattle.status_page.proofs.metrics.resources.Goals as goal
 pub returns : goal.returns
 returns c =
     written_as string_bytes c.format.result _ _
-    (four _ _ _ _ _ _ _ _ c.in_ok-memory.ensures c.in_ok-processors.ensures c.in_ok-descriptors.ensures c.in_ok-most.ensures)
+    (four _ _ _ _ _ _ _ _ c.in_ok-memory.ensures c.in_ok-processors.ensures c.in_ok-descriptors.ensures
+    c.in_ok-most.ensures)
     c.format.ensures.ok

@@ -5,5 +5,6 @@ use Rattle.status_page.proofs.metrics.threads.Goals as goal
 pub returns : goal.returns
 returns c =
     written_as string_bytes c.format.result _ _
-    (four _ _ _ _ _ _ _ _ c.in_ok-reads.ensures c.in_ok-read_threads.ensures c.in_ok-updating.ensures c.in_ok-update_threads.ensures)
+    (four _ _ _ _ _ _ _ _ c.in_ok-reads.ensures c.in_ok-read_threads.ensures c.in_ok-updating.ensures
+    c.in_ok-update_threads.ensures)
     c.format.ensures.ok

@@ -8,6 +8,7 @@ pub returns : goal.returns
 returns c =
     written_as string_bytes c.format.result _ _
     (three _ _ _ _ _ _
-    (c.in_ok-buckets.ensures ∙ ap (λ (xs : List Bucket). flat_map (bucket_sample c.args.name.now c.args.front.now) xs) c.as_slice.ensures.value)
+    (c.in_ok-buckets.ensures ∙ ap (λ (xs : List Bucket). flat_map (bucket_sample c.args.name.now c.args.front.now) xs)
+    c.as_slice.ensures.value)
     c.in_ok-sum.ensures c.in_ok-count.ensures)
     c.format.ensures.ok

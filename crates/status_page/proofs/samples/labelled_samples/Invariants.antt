@@ -4,4 +4,5 @@ use Rattle.status_page.proofs.samples.labelled_samples.Given as goal
 
 abbrev pub invariant-loop-sample : goal.invariant-loop-sample
 invariant-loop-sample l =
-    string_bytes l.lines ++ flat_map (labelled_sample l.name l.key) (drop l.sample-index l.samples) ≡ flat_map (labelled_sample l.name l.key) l.samples
+    string_bytes l.lines ++ flat_map (labelled_sample l.name l.key) (drop l.sample-index l.samples) ≡
+    flat_map (labelled_sample l.name l.key) l.samples

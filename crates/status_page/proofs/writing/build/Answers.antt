@@ -5,7 +5,8 @@ use Rattle.status_page.proofs.writing.build.Goals as goal
 
 pub returns : goal.returns
 returns c =
-    figure_of string_bytes c.figure.result (codes "dird_build_info") (codes "The program's version, and whether its proofs were checked.") (codes "gauge")
+    figure_of string_bytes c.figure.result (codes "dird_build_info")
+    (codes "The program's version, and whether its proofs were checked.") (codes "gauge")
     c.deref.result.now (build_sample c.args.version.now c.args.build)
     (c.deref.ensures ∙ c.in_ok-sample.ensures)
     c.figure.ensures

@@ -3,4 +3,5 @@ use Rattle.status_page.proofs.Written.{written_as}
 use Rattle.status_page.proofs.writing.build_sample.Goals as goal
 
 pub returns : goal.returns
-returns c = written_as string_bytes c.format.result _ _ (rw c.proved_word-proved.ensures (simp append_assoc)) c.format.ensures.ok
+returns c = written_as string_bytes c.format.result _ _ (rw c.proved_word-proved.ensures (simp append_assoc))
+    c.format.ensures.ok

@@ -3,4 +3,5 @@ use Rattle.status_page.proofs.Written.{written_as, two}
 use Rattle.status_page.proofs.writing.metrics.Goals as goal
 
 pub returns : goal.returns
-returns c = written_as string_bytes c.format.result _ _ (two _ _ _ _ c.in_ok-replica.ensures c.in_ok-counted.ensures) c.format.ensures.ok
+returns c = written_as string_bytes c.format.result _ _ (two _ _ _ _ c.in_ok-replica.ensures c.in_ok-counted.ensures)
+    c.format.ensures.ok

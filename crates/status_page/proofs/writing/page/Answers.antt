@@ -5,6 +5,7 @@ use Rattle.status_page.proofs.writing.page.Goals as goal
 
 pub returns-in_ok-text-in-Metrics : goal.returns-in_ok-text-in-Metrics
 returns-in_ok-text-in-Metrics c =
-    rw c.in-Metrics.is (response_of string_bytes c.response.result c.args.method (codes "200 OK") c.deref.result.now (metrics_text c.args.version.now c.args.figures.now c.args.counts.now)
+    rw c.in-Metrics.is (response_of string_bytes c.response.result c.args.method (codes "200 OK") c.deref.result.now
+    (metrics_text c.args.version.now c.args.figures.now c.args.counts.now)
     (c.deref.ensures ∙ c.in_ok-text-in-Metrics.ensures)
     c.response.ensures)

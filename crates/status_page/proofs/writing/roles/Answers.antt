@@ -5,5 +5,6 @@ use Rattle.status_page.proofs.writing.roles.Goals as goal
 pub returns : goal.returns
 returns c =
     written_as string_bytes c.format.result _ _
-    (four _ _ _ _ _ _ _ _ c.in_ok-primary.ensures c.in_ok-backup.ensures c.in_ok-changing.ensures c.in_ok-recovering.ensures)
+    (four _ _ _ _ _ _ _ _ c.in_ok-primary.ensures c.in_ok-backup.ensures c.in_ok-changing.ensures
+    c.in_ok-recovering.ensures)
     c.format.ensures.ok

@@ -7,5 +7,8 @@ pub returns : goal.returns
 returns c =
     written_as string_bytes c.format.result _ _
     (two _ _ _ _ c.in_ok-build.ensures
-    (c.in_ok-majority.ensures ∙ ap (λ (n : ℕ). figure (codes "dird_quorum") (codes "0 where the replica is the primary and hears from no majority, else 1.") (codes "gauge") (sample (codes "dird_quorum") n)) c.quorum.ensures))
+    (c.in_ok-majority.ensures
+    ∙ ap (λ (n : ℕ). figure (codes "dird_quorum")
+    (codes "0 where the replica is the primary and hears from no majority, else 1.") (codes "gauge")
+    (sample (codes "dird_quorum") n)) c.quorum.ensures))
     c.format.ensures.ok

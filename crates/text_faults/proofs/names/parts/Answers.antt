@@ -10,17 +10,22 @@ loop-index-preserved c =
       | then-is_bare+in_ok-push_part w ↦ record {
         start = omega arith;
         parts =
-            ends_part _ _ _ _ c.loop-index.is_escaped _ c.args.mark c.args.text.now c.loop-index.index _ c.loop-index-test.true
+            ends_part _ _ _ _ c.loop-index.is_escaped _ c.args.mark c.args.text.now c.loop-index.index _
+            c.loop-index-test.true
             (ap (λ p. map (λ x. x.now) p.items) w.parts-is ∙ w.in_ok-push_part.ensures)
-            (ap (λ k. slice_range c.args.text.now k (c.loop-index.index + 1)) w.start-is ∙ empty_range c.args.text.now (c.loop-index.index + 1))
+            (ap (λ k. slice_range c.args.text.now k (c.loop-index.index + 1)) w.start-is ∙ empty_range c.args.text.now
+            (c.loop-index.index + 1))
             c.is_escape-is_escaped.ensures (cc) c.loop-index.invariant.parts;
       }
       | else-is_bare w ↦ record {
         start = omega arith;
         parts =
-            goes_on _ _ _ _ c.loop-index.is_escaped _ c.args.mark c.args.text.now c.loop-index.index _ c.loop-index-test.true
+            goes_on _ _ _ _ c.loop-index.is_escaped _ c.args.mark c.args.text.now c.loop-index.index _
+            c.loop-index-test.true
             (ap (λ p. map (λ x. x.now) p.items) w.parts-is)
-            (ap (λ k. slice_range c.args.text.now k (c.loop-index.index + 1)) w.start-is ∙ longer_range c.args.text.now c.loop-index.start c.loop-index.index c.loop-index.invariant.start c.loop-index-test.true)
+            (ap (λ k. slice_range c.args.text.now k (c.loop-index.index + 1)) w.start-is
+            ∙ longer_range c.args.text.now c.loop-index.start c.loop-index.index c.loop-index.invariant.start
+            c.loop-index-test.true)
             c.is_escape-is_escaped.ensures (cc) c.loop-index.invariant.parts;
       }
     ]

@@ -7,8 +7,11 @@ use Rattle.vr_change.proofs.beat.beat_changing.Goals as goal
 pub returns-clause-step : goal.returns-clause-step
 returns-clause-step g c =
     let r = c.args.replica.now in
-    beaten r.count r.index (state r) c.in_ok-told.told.items c.in_ok-declared.declared.items c.sending.result.sends.items c.sending.result.replies.items
-    c.in_ok-told.ensures c.in_ok-declared.ensures (ap (λ v. v.items) c.sending.ensures.sends ∙ c.in_ok-sends.ensures) c.sending.ensures.replies
+    beaten r.count r.index (state r) c.in_ok-told.told.items c.in_ok-declared.declared.items
+    c.sending.result.sends.items c.sending.result.replies.items
+    c.in_ok-told.ensures c.in_ok-declared.ensures (ap (λ v. v.items) c.sending.ensures.sends ∙ c.in_ok-sends.ensures)
+    c.sending.ensures.replies
 
 pub returns-clause-store : goal.returns-clause-store
-returns-clause-store g c = c.sending.ensures.store ∙ none_to_store (state c.args.replica.now) (state c.args.replica.now) refl
+returns-clause-store g c = c.sending.ensures.store ∙ none_to_store (state c.args.replica.now)
+    (state c.args.replica.now) refl

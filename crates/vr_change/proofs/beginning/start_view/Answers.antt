@@ -8,5 +8,7 @@ pub returns : goal.returns
 returns g c =
     let r = c.args.replica.now in
     IfOk-weaker c.join.result _ _
-    (λ _ joined. joined ∙ ap (λ all. c.args.sends.items ++ all) (c.in_ok-started.ensures ∙ ap (λ l. to_all r.count r.index (StartView r.view_number (record { log = l; commit_number = c.args.commit_number }))) c.in_ok-copy.ensures))
+    (λ _ joined. joined ∙ ap (λ all. c.args.sends.items ++ all) (c.in_ok-started.ensures
+    ∙ ap (λ l. to_all r.count r.index
+    (StartView r.view_number (record { log = l; commit_number = c.args.commit_number }))) c.in_ok-copy.ensures))
     c.join.ensures

@@ -15,11 +15,13 @@ returns-in-None-clause-step g c =
     let r = c.args.replica.now in
     only_before (state r) c.args.sends.items c.sending-in-None.result.sends.items c.sending-in-None.result.replies.items
     (ap (λ v. v.items) c.sending-in-None.ensures.sends) c.sending-in-None.ensures.replies
-    ∙ begun r.count r.index (state r) None c.args.sends.items c.if-not-may_begin.ensures (sym c.in-None.is ∙ c.in_ok-copy_best.ensures)
+    ∙ begun r.count r.index (state r) None c.args.sends.items c.if-not-may_begin.ensures (sym c.in-None.is
+    ∙ c.in_ok-copy_best.ensures)
 
 pub returns-in-Some-clause-step : goal.returns-in-Some-clause-step
 returns-in-Some-clause-step g c =
     let r = c.args.replica.now in
     IfOk-weaker c.begin_view.result _ _
-    (λ _ step. step ∙ begun r.count r.index (state r) (Some c.in-Some.change) c.args.sends.items c.if-not-may_begin.ensures (sym c.in-Some.is ∙ c.in_ok-copy_best.ensures))
+    (λ _ step. step ∙ begun r.count r.index (state r) (Some c.in-Some.change) c.args.sends.items
+    c.if-not-may_begin.ensures (sym c.in-Some.is ∙ c.in_ok-copy_best.ensures))
     c.begin_view.ensures.step

@@ -9,18 +9,21 @@ pub returns-then-replica-view_number-clause-step : goal.returns-then-replica-vie
 returns-then-replica-view_number-clause-step g c =
     let r = c.args.replica.now in
     IfOk-weaker c.enter_and_note.result _ _
-    (λ _ step. step ∙ do_entering r.count r.index c.args.from c.args.view_number c.args.change (state r) (sym c.if-is_recovering.ensures) c.if-replica-view_number.true)
+    (λ _ step. step ∙ do_entering r.count r.index c.args.from c.args.view_number c.args.change (state r)
+    (sym c.if-is_recovering.ensures) c.if-replica-view_number.true)
     c.enter_and_note.ensures.step
 
 pub returns-else-replica-view_number-clause-step : goal.returns-else-replica-view_number-clause-step
 returns-else-replica-view_number-clause-step g c =
     let r = c.args.replica.now in
     IfOk-weaker c.note_in_view.result _ _
-    (λ _ step. step ∙ do_in_view r.count r.index c.args.from c.args.view_number c.args.change (state r) (sym c.if-is_recovering.ensures) c.if-replica-view_number.false)
+    (λ _ step. step ∙ do_in_view r.count r.index c.args.from c.args.view_number c.args.change (state r)
+    (sym c.if-is_recovering.ensures) c.if-replica-view_number.false)
     c.note_in_view.ensures.step
 
 pub returns-else-replica-view_number-clause-store : goal.returns-else-replica-view_number-clause-store
 returns-else-replica-view_number-clause-store g c =
     IfOk-weaker c.note_in_view.result _ _
-    (λ _ none. none ∙ none_to_store (state c.args.replica.now) (state c.note_in_view.new.replica) c.note_in_view.ensures.view)
+    (λ _ none. none ∙ none_to_store (state c.args.replica.now) (state c.note_in_view.new.replica)
+    c.note_in_view.ensures.view)
     c.note_in_view.ensures.store

@@ -10,5 +10,6 @@ pub returns-then-is_changing_in-clause-step : goal.returns-then-is_changing_in-c
 returns-then-is_changing_in-clause-step g c =
     let r = c.args.replica.now in
     IfOk-weaker c.note_start.result _ _
-    (λ _. when (is_changing_in (state r) c.args.view_number) (note_start_at r c.args.from) (idle (state r)) c.new.result.items c.if-is_changing_in.ensures c.new.ensures.items)
+    (λ _. when (is_changing_in (state r) c.args.view_number) (note_start_at r c.args.from) (idle (state r))
+    c.new.result.items c.if-is_changing_in.ensures c.new.ensures.items)
     c.note_start.ensures.step

@@ -8,12 +8,15 @@ pub loop-other-preserved : goal.loop-other-preserved
 loop-other-preserved c = record {
   counted = elim c.if-other-index.branch [
     | then-other-index+then-least-acknowledged w ↦ w.found-is
-        ∙ count_with (λ k. nat_le c.args.least (slice_index c.args.acknowledged.now k)) _ _ _ c.loop-other.invariant.counted w.if-other-index.true (le-leb _ _ w.if-least-acknowledged.true)
+        ∙ count_with (λ k. nat_le c.args.least (slice_index c.args.acknowledged.now k)) _ _ _
+        c.loop-other.invariant.counted w.if-other-index.true (le-leb _ _ w.if-least-acknowledged.true)
     | else-other-index w ↦ w.found-is ∙ elim w.else-other-index.branch [
       | else-other-index-via-then-other-index+else-least-acknowledged v ↦
-          count_without (λ k. nat_le c.args.least (slice_index c.args.acknowledged.now k)) _ _ _ c.loop-other.invariant.counted v.if-other-index.true (lt-leb _ _ v.if-least-acknowledged.false)
+          count_without (λ k. nat_le c.args.least (slice_index c.args.acknowledged.now k)) _ _ _
+          c.loop-other.invariant.counted v.if-other-index.true (lt-leb _ _ v.if-least-acknowledged.false)
       | else-other-index-via-else-other-index v ↦
-          count_same (λ k. nat_le c.args.least (slice_index c.args.acknowledged.now k)) _ _ _ c.loop-other.invariant.counted v.if-other-index.false
+          count_same (λ k. nat_le c.args.least (slice_index c.args.acknowledged.now k)) _ _ _
+          c.loop-other.invariant.counted v.if-other-index.false
     ]
   ];
   few = elim c.if-other-index.branch [

@@ -5,4 +5,5 @@ use Rattle.vr_normal.proofs.acknowledgements.reached.Given as goal
 
 -- so far it is the most of those below this one
 abbrev pub invariant-loop-other : goal.invariant-loop-other
-invariant-loop-other l = l.most ≡ reached l.half l.acknowledged (others (length l.acknowledged) l.index) (others l.other l.index)
+invariant-loop-other l = l.most ≡ reached l.half l.acknowledged (others (length l.acknowledged) l.index)
+    (others l.other l.index)

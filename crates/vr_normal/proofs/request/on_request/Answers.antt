@@ -15,14 +15,16 @@ pub returns-in-None-clause-step : goal.returns-in-None-clause-step
 returns-in-None-clause-step g c =
     let r = c.args.replica.now in
     IfOk-weaker c.prepare.result _ _
-    (λ _. asked r.count r.index (state r) c.args.entry None c.if-not-leads.ensures (sym c.in-None.is ∙ c.latest.ensures ∙ r.tabled c.args.entry.client))
+    (λ _. asked r.count r.index (state r) c.args.entry None c.if-not-leads.ensures (sym c.in-None.is
+    ∙ c.latest.ensures ∙ r.tabled c.args.entry.client))
     c.prepare.ensures.step
 
 pub returns-then-last-entry-clause-step : goal.returns-then-last-entry-clause-step
 returns-then-last-entry-clause-step g c =
     let r = c.args.replica.now in
     IfOk-weaker c.prepare-then-last-entry.result _ _
-    (λ _ prepared. asked r.count r.index (state r) c.args.entry (Some c.in-Some.last) c.if-not-leads.ensures (sym c.in-Some.is ∙ c.latest.ensures ∙ r.tabled c.args.entry.client)
+    (λ _ prepared. asked r.count r.index (state r) c.args.entry (Some c.in-Some.last) c.if-not-leads.ensures
+    (sym c.in-Some.is ∙ c.latest.ensures ∙ r.tabled c.args.entry.client)
     (newer r.count r.index (state r) c.args.entry c.in-Some.last c.if-last-entry.true prepared))
     c.prepare-then-last-entry.ensures.step
 
@@ -30,17 +32,24 @@ pub returns-then-last-replica-clause-step : goal.returns-then-last-replica-claus
 returns-then-last-replica-clause-step g c =
     let r = c.args.replica.now in
     if_both c.answer_again.result c.answer_again.ensures.sends c.answer_again.ensures.replies
-    (λ out hs hr. asked r.count r.index (state r) c.args.entry (Some c.in-Some.last) c.if-not-leads.ensures (sym c.in-Some.is ∙ c.latest.ensures ∙ r.tabled c.args.entry.client)
-    (latest_again r.count r.index (state r) c.args.entry c.in-Some.last out.sends.items out.replies.items c.if-last-entry.false c.if-last-entry-2.true c.if-last-replica.true hs hr))
+    (λ out hs hr. asked r.count r.index (state r) c.args.entry (Some c.in-Some.last) c.if-not-leads.ensures
+    (sym c.in-Some.is ∙ c.latest.ensures ∙ r.tabled c.args.entry.client)
+    (latest_again r.count r.index (state r) c.args.entry c.in-Some.last out.sends.items out.replies.items
+    c.if-last-entry.false c.if-last-entry-2.true c.if-last-replica.true hs hr))
 
 pub returns-clause-step : goal.returns-clause-step
 returns-clause-step g c =
     let r = c.args.replica.now in
     let last = c.in-Some.last in
-    asked r.count r.index (state r) c.args.entry (Some last) c.if-not-leads.ensures (sym c.in-Some.is ∙ c.latest.ensures ∙ r.tabled c.args.entry.client)
-    (older r.count r.index (state r) c.args.entry last c.sending-else-last-entry-2.result.sends.items c.sending-else-last-entry-2.result.replies.items c.if-last-entry.false
+    asked r.count r.index (state r) c.args.entry (Some last) c.if-not-leads.ensures (sym c.in-Some.is
+    ∙ c.latest.ensures ∙ r.tabled c.args.entry.client)
+    (older r.count r.index (state r) c.args.entry last c.sending-else-last-entry-2.result.sends.items
+    c.sending-else-last-entry-2.result.replies.items c.if-last-entry.false
     (elim c.else-last-entry-2.branch [
-      | else-last-entry-2-via-then-last-entry-2+else-last-replica w ↦ too_early last.request_number c.args.entry.request_number last.op_number r.commit_number w.if-last-replica.false
-      | else-last-entry-2-via-else-last-entry-2 w ↦ another last.request_number c.args.entry.request_number last.op_number r.commit_number w.if-last-entry-2.false
+      | else-last-entry-2-via-then-last-entry-2+else-last-replica w ↦ too_early last.request_number
+          c.args.entry.request_number last.op_number r.commit_number w.if-last-replica.false
+      | else-last-entry-2-via-else-last-entry-2 w ↦ another last.request_number c.args.entry.request_number
+          last.op_number r.commit_number w.if-last-entry-2.false
     ])
-    (ap (λ v. v.items) c.sending-else-last-entry-2.ensures.sends ∙ c.new-else-last-entry-2.ensures.items) c.sending-else-last-entry-2.ensures.replies)
+    (ap (λ v. v.items) c.sending-else-last-entry-2.ensures.sends ∙ c.new-else-last-entry-2.ensures.items)
+    c.sending-else-last-entry-2.ensures.replies)

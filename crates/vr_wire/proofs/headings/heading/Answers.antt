@@ -13,4 +13,5 @@ returns-then-other-number c =
     (says.0 ∙ ap (λ (n : ℕ). first_octets n c.in-Some.said.0 c.in-Some.said.1) same, says.1)
 
 pub returns-else-other-number : goal.returns-else-other-number
-returns-else-other-number c = tells_another c.args.first (c.in-Some.other, c.in-Some.said) c.args.cluster (sym c.in-Some.ensures.told) (λ e. c.if-other-number.false (e ∙ sym c.number.ensures.same))
+returns-else-other-number c = tells_another c.args.first (c.in-Some.other, c.in-Some.said) c.args.cluster
+    (sym c.in-Some.ensures.told) (λ e. c.if-other-number.false (e ∙ sym c.number.ensures.same))

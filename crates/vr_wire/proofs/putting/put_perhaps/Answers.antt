@@ -8,5 +8,7 @@ use Rattle.vr_wire.proofs.putting.put_perhaps.Goals as goal
 
 pub returns-in_ok-put_octet-in-Some-clause-spelled : goal.returns-in_ok-put_octet-in-Some-clause-spelled
 returns-in_ok-put_octet-in-Some-clause-spelled g c =
-    rw c.in-Some.is (puts_last (most_under g.row.LIMIT) c.put_held.result c.args.out.now.items c.put_octet-in-Some.new.out.items c.put_held.new.out.items
-    (1 ∷ []) (held_octets (written_held c.in-Some.held)) c.in_ok-put_octet-in-Some.ensures.spelled c.put_held.ensures.spelled)
+    rw c.in-Some.is (puts_last (most_under g.row.LIMIT) c.put_held.result c.args.out.now.items
+    c.put_octet-in-Some.new.out.items c.put_held.new.out.items
+    (1 ∷ []) (held_octets (written_held c.in-Some.held)) c.in_ok-put_octet-in-Some.ensures.spelled
+    c.put_held.ensures.spelled)

@@ -13,10 +13,14 @@ returns-in_err-cluster c =
 pub returns-in_err-message : goal.returns-in_err-message
 returns-in_err-message c =
     let p = err_from_is_err_and c.from_residual-in_err-message.result c.from_residual-in_err-message.ensures.1 in
-    let raw : ℕ × (ℕ × PeerMessage (List ℕ)) = (c.in_ok-cluster.cluster, (c.in_ok-cluster.sender, c.in_ok-cluster.raw)) in
-    rw (p.1, p.2) (payload_refused c.in_err-message.field-0.0 c.args.frame.now raw c.in_ok-cluster.ensures c.in_err-message.ensures)
+    let raw : ℕ × (ℕ × PeerMessage (List ℕ)) =
+    (c.in_ok-cluster.cluster, (c.in_ok-cluster.sender, c.in_ok-cluster.raw)) in
+    rw (p.1, p.2) (payload_refused c.in_err-message.field-0.0 c.args.frame.now raw c.in_ok-cluster.ensures
+    c.in_err-message.ensures)
 
 pub returns : goal.returns
 returns c =
-    let raw : ℕ × (ℕ × PeerMessage (List ℕ)) = (c.in_ok-cluster.cluster, (c.in_ok-cluster.sender, c.in_ok-cluster.raw)) in
-    frame_read c.args.frame.now raw c.in_ok-message.message (λ i. omega (arith, c.type_inv.frame i)) c.in_ok-cluster.ensures c.in_ok-message.ensures
+    let raw : ℕ × (ℕ × PeerMessage (List ℕ)) =
+    (c.in_ok-cluster.cluster, (c.in_ok-cluster.sender, c.in_ok-cluster.raw)) in
+    frame_read c.args.frame.now raw c.in_ok-message.message (λ i. omega (arith, c.type_inv.frame i))
+    c.in_ok-cluster.ensures c.in_ok-message.ensures

@@ -13,8 +13,13 @@ pub returns-clause-spelled : goal.returns-clause-spelled
 returns-clause-spelled g c =
     let a = c.args in
     let d = a.change.now in
-    let put = subst (λ (l : List (LogEntry OpValue)). PutsWithin (most_under g.row.LIMIT) c.put_log.result c.put_two.new.out.items c.put_log.new.out.items (log_octets (written_log l))) c.as_slice.ensures c.put_log.ensures.spelled in
-    three_parts (most_under g.row.LIMIT) c.put_log.result a.out.now.items c.put_number.new.out.items c.put_two.new.out.items c.put_log.new.out.items
-    (number a.view_number) (number d.last_normal_view ++ number d.commit_number) (log_octets (written_log d.log)) (body_octets (written (DoViewChange a.view_number d)))
+    let put = subst (λ (l : List (LogEntry OpValue)). PutsWithin (most_under g.row.LIMIT) c.put_log.result
+    c.put_two.new.out.items c.put_log.new.out.items (log_octets (written_log l))) c.as_slice.ensures
+    c.put_log.ensures.spelled in
+    three_parts (most_under g.row.LIMIT) c.put_log.result a.out.now.items c.put_number.new.out.items
+    c.put_two.new.out.items c.put_log.new.out.items
+    (number a.view_number) (number d.last_normal_view ++ number d.commit_number) (log_octets (written_log d.log))
+    (body_octets (written (DoViewChange a.view_number d)))
     c.in_ok-put_number.ensures.spelled c.in_ok-put_two.ensures.spelled put
-    (ap (λ (l : List ℕ). number a.view_number ++ l) (append_assoc (number d.last_normal_view) (number d.commit_number) (log_octets (written_log d.log))))
+    (ap (λ (l : List ℕ). number a.view_number ++ l) (append_assoc (number d.last_normal_view) (number d.commit_number)
+    (log_octets (written_log d.log))))

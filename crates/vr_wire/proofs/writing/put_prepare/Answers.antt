@@ -11,7 +11,9 @@ pub returns-clause-spelled : goal.returns-clause-spelled
 returns-clause-spelled g c =
     let a = c.args in
     let e = entry_octets (written_entry a.entry.now) in
-    three_parts (most_under g.row.LIMIT) c.put_entry.result a.out.now.items c.put_number.new.out.items c.put_two.new.out.items c.put_entry.new.out.items
-    (number a.view_number) (number a.op_number ++ number a.commit_number) e (body_octets (written (Prepare a.view_number a.entry.now a.op_number a.commit_number)))
+    three_parts (most_under g.row.LIMIT) c.put_entry.result a.out.now.items c.put_number.new.out.items
+    c.put_two.new.out.items c.put_entry.new.out.items
+    (number a.view_number) (number a.op_number ++ number a.commit_number) e
+    (body_octets (written (Prepare a.view_number a.entry.now a.op_number a.commit_number)))
     c.in_ok-put_number.ensures.spelled c.in_ok-put_two.ensures.spelled c.put_entry.ensures.spelled
     (ap (λ (l : List ℕ). number a.view_number ++ l) (append_assoc (number a.op_number) (number a.commit_number) e))

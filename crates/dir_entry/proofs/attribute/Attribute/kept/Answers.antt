@@ -7,7 +7,9 @@ use Rattle.dir_entry.proofs.attribute.Attribute.kept.Goals as goal
 
 pub invariant_of-result : goal.invariant_of-result
 invariant_of-result c =
-    c.in_ok-held.ensures.forms ∙ c.in_ok-lists.ensures.forms ∙ ap (picked c.args.marks.now) c.in_ok-into_lists.ensures.forms
+    c.in_ok-held.ensures.forms ∙ c.in_ok-lists.ensures.forms ∙ ap (picked c.args.marks.now)
+    c.in_ok-into_lists.ensures.forms
     ∙ ap (picked c.args.marks.now) c.self.invariant
     ∙ sym (map_picked form_of c.args.marks.now (values_in c.self.inside.held))
-    ∙ sym (ap (map form_of) (c.in_ok-held.ensures.values ∙ c.in_ok-lists.ensures.values ∙ ap (picked c.args.marks.now) c.in_ok-into_lists.ensures.values))
+    ∙ sym (ap (map form_of) (c.in_ok-held.ensures.values ∙ c.in_ok-lists.ensures.values ∙ ap (picked c.args.marks.now)
+    c.in_ok-into_lists.ensures.values))

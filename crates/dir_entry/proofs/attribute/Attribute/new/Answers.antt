@@ -11,7 +11,8 @@ same_error r x y p q = cc
 pub returns-then-not-branch-clause-refused : goal.returns-then-not-branch-clause-refused
 returns-then-not-branch-clause-refused c = λ _.
     list_all-map (is_of_syntax c.args.schema.now c.args.type_id) (λ (v : Vec ℕ Global). v.items) c.args.values.items
-    ∙ ap (list_all (λ (v : Vec ℕ Global). is_of_syntax c.args.schema.now c.args.type_id v.items)) (sym c.as_slice.ensures.value)
+    ∙ ap (list_all (λ (v : Vec ℕ Global). is_of_syntax c.args.schema.now c.args.type_id v.items))
+    (sym c.as_slice.ensures.value)
     ∙ sym c.in_ok-are_of_syntax.ensures
     ∙ c.if-not-branch.true
 
@@ -23,6 +24,7 @@ returns-in_err-lists-clause-refused c = λ e.
 pub returns-clause-in_syntax : goal.returns-clause-in_syntax
 returns-clause-in_syntax c =
     list_all-map (is_of_syntax c.args.schema.now c.args.type_id) (λ (v : Vec ℕ Global). v.items) c.args.values.items
-    ∙ ap (list_all (λ (v : Vec ℕ Global). is_of_syntax c.args.schema.now c.args.type_id v.items)) (sym c.as_slice.ensures.value)
+    ∙ ap (list_all (λ (v : Vec ℕ Global). is_of_syntax c.args.schema.now c.args.type_id v.items))
+    (sym c.as_slice.ensures.value)
     ∙ sym c.in_ok-are_of_syntax.ensures
     ∙ c.if-not-branch.false

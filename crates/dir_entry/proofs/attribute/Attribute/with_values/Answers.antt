@@ -12,9 +12,12 @@ returns-clause-keyed c = λ k.
     let more = c.in_ok-more.more in
     let own = subst (λ (a : KeyedAttribute). AreKeysOf s a.kind a.values a.keys) (sym c.self.view_is) k in
     let values : values_in c.in_ok-held.field-0 ≡ values_in c.self.inside.held ++ more.values.items =
-    c.in_ok-held.ensures.values ∙ c.in_ok-lists.ensures.values ∙ ap (λ (x : List (List ℕ)). x ++ more.values.items) c.in_ok-into_lists.ensures.values in
+    c.in_ok-held.ensures.values ∙ c.in_ok-lists.ensures.values ∙ ap (λ (x : List (List ℕ)). x ++ more.values.items)
+    c.in_ok-into_lists.ensures.values in
     let keys : keys_in c.in_ok-held.field-0 ≡ keys_in c.self.inside.held ++ more.keys.items =
-    c.in_ok-held.ensures.keys ∙ c.in_ok-lists.ensures.keys ∙ ap (λ (x : List (List ℕ)). x ++ more.keys.items) c.in_ok-into_lists.ensures.keys in
+    c.in_ok-held.ensures.keys ∙ c.in_ok-lists.ensures.keys ∙ ap (λ (x : List (List ℕ)). x ++ more.keys.items)
+    c.in_ok-into_lists.ensures.keys in
     subst (λ (v : List (List ℕ)). AreKeysOf s t v (keys_in c.in_ok-held.field-0)) (sym values)
     (subst (λ (l : List (List ℕ)). AreKeysOf s t (values_in c.self.inside.held ++ more.values.items) l) (sym keys)
-    (keyed_join s t (values_in c.self.inside.held) (keys_in c.self.inside.held) more.values.items more.keys.items own c.in_ok-more.ensures.keyed))
+    (keyed_join s t (values_in c.self.inside.held) (keys_in c.self.inside.held) more.values.items more.keys.items own
+    c.in_ok-more.ensures.keyed))

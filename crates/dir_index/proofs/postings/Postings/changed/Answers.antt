@@ -18,10 +18,16 @@ returns-clause-has c = λ rise p n.
     c.in_ok-now.ensures.has (c.in_ok-more.ensures.rising (subst AllRise (sym lists) rise)) p n
     ∙ ap (λ (i : Bool). i && not (nat_eq n c.args.number && (b && not a))) (c.in_ok-more.ensures.has p n)
     ∙ both_steps (nat_eq n c.args.number) b a (is_in c.self.inside.lists (key_of p) n)
-    ∙ ap (λ (x : Bool). cond (nat_eq n c.args.number) x (is_in c.self.inside.lists (key_of p) n)) (c.in_ok-was.ensures p (is_in c.self.inside.lists (key_of p) n))
-    ∙ ap (λ (ix : List Kinds). cond (nat_eq n c.args.number) (moved (lists_entry ix c.args.before.now p) (lists_entry ix c.args.after.now p) (is_in c.self.inside.lists (key_of p) n)) (is_in c.self.inside.lists (key_of p) n)) choice
-    ∙ ap (λ (ls : ListRows). cond (nat_eq n c.args.number) (moved (lists_entry c.args.self.now.indexes c.args.before.now p) (lists_entry c.args.self.now.indexes c.args.after.now p) (is_in ls (key_of p) n)) (is_in ls (key_of p) n)) lists
+    ∙ ap (λ (x : Bool). cond (nat_eq n c.args.number) x (is_in c.self.inside.lists (key_of p) n))
+    (c.in_ok-was.ensures p (is_in c.self.inside.lists (key_of p) n))
+    ∙ ap (λ (ix : List Kinds). cond (nat_eq n c.args.number) (moved (lists_entry ix c.args.before.now p)
+    (lists_entry ix c.args.after.now p) (is_in c.self.inside.lists (key_of p) n))
+    (is_in c.self.inside.lists (key_of p) n)) choice
+    ∙ ap (λ (ls : ListRows). cond (nat_eq n c.args.number)
+    (moved (lists_entry c.args.self.now.indexes c.args.before.now p) (lists_entry c.args.self.now.indexes
+    c.args.after.now p) (is_in ls (key_of p) n)) (is_in ls (key_of p) n)) lists
 
 pub returns-clause-rising : goal.returns-clause-rising
 returns-clause-rising c = λ rise.
-    c.in_ok-now.ensures.rising (c.in_ok-more.ensures.rising (subst AllRise (sym (ap (λ m. m.lists) c.self.view_is)) rise))
+    c.in_ok-now.ensures.rising (c.in_ok-more.ensures.rising (subst AllRise (sym (ap (λ m. m.lists) c.self.view_is))
+    rise))

@@ -17,14 +17,20 @@ turned false d h = ap not h
 pub returns-then-not-kinds : goal.returns-then-not-kinds
 returns-then-not-kinds c = λ es held n.
     let off : (kinds_of c.args.self.now.indexes c.args.range.now.type_id).ordering ≡ false =
-    ap (λ (ix : List Kinds). (kinds_of ix c.args.range.now.type_id).ordering) (sym c.indexes.ensures) ∙ ap (λ (k : Kinds). k.ordering) (sym c.kinds.ensures) ∙ turned c.kinds.result.ordering true c.if-not-kinds.true in
-    sym (or_off (has_number n c.args.into.now.items)) ∙ ap (λ b. has_number n c.args.into.now.items || b) (sym (no_range c.args.self.now es c.args.range.now n off))
+    ap (λ (ix : List Kinds). (kinds_of ix c.args.range.now.type_id).ordering) (sym c.indexes.ensures)
+    ∙ ap (λ (k : Kinds). k.ordering) (sym c.kinds.ensures) ∙ turned c.kinds.result.ordering true
+    c.if-not-kinds.true in
+    sym (or_off (has_number n c.args.into.now.items)) ∙ ap (λ b. has_number n c.args.into.now.items || b)
+    (sym (no_range c.args.self.now es c.args.range.now n off))
 
 pub returns : goal.returns
 returns c = λ es held n.
     let on : (kinds_of c.args.self.now.indexes c.args.range.now.type_id).ordering ≡ true =
-    ap (λ (ix : List Kinds). (kinds_of ix c.args.range.now.type_id).ordering) (sym c.indexes.ensures) ∙ ap (λ (k : Kinds). k.ordering) (sym c.kinds.ensures) ∙ turned c.kinds.result.ordering false c.if-not-kinds.false in
+    ap (λ (ix : List Kinds). (kinds_of ix c.args.range.now.type_id).ordering) (sym c.indexes.ensures)
+    ∙ ap (λ (k : Kinds). k.ordering) (sym c.kinds.ensures) ∙ turned c.kinds.result.ordering false
+    c.if-not-kinds.false in
     let lists = ap (λ m. m.lists) c.self.view_is in
     c.in_ok-push_lists.ensures n
     ∙ ap (λ b. has_number n c.args.into.now.items || b)
-    (ap (has_in_lists c.args.range.now n) lists ∙ range_numbers c.args.self.now es c.args.range.now n (subst (Rises list_order) lists c.rises.ensures) held on)
+    (ap (has_in_lists c.args.range.now n) lists ∙ range_numbers c.args.self.now es c.args.range.now n
+    (subst (Rises list_order) lists c.rises.ensures) held on)

@@ -9,7 +9,14 @@ pub returns-clause-ok : goal.returns-clause-ok
 returns-clause-ok c = λ es held there.
     let m : PostingsModel = c.args.self.now in
     let rise = all_rise m es held in
-    subst (λ (ix : List Kinds). AreOf (record { indexes = ix; lists = c.in_ok-self-inside.field-0 }) (with_attributes c.args.number c.args.after.now es)) (sym (ap (λ x. x.indexes) c.self.view_is))
-    (subst (λ (a : List KeyedAttribute). AreOf (record { indexes = m.indexes; lists = c.in_ok-self-inside.field-0 }) (with_attributes c.args.number a es)) c.attributes-2.ensures
-    (replaced_lists m.indexes m.lists c.in_ok-self-inside.field-0 c.args.number c.attributes.result.now c.attributes-2.result.now es (record { rising = c.in_ok-self-inside.ensures.rising rise; has = c.in_ok-self-inside.ensures.has rise }) held
+    subst (λ (ix : List Kinds). AreOf (record { indexes = ix; lists = c.in_ok-self-inside.field-0 })
+    (with_attributes c.args.number c.args.after.now es)) (sym (ap (λ x. x.indexes) c.self.view_is))
+    (subst (λ (a : List KeyedAttribute). AreOf (record { indexes = m.indexes; lists = c.in_ok-self-inside.field-0 })
+    (with_attributes c.args.number a es)) c.attributes-2.ensures
+    (replaced_lists m.indexes m.lists c.in_ok-self-inside.field-0 c.args.number c.attributes.result.now
+    c.attributes-2.result.now es (record {
+      rising = c.in_ok-self-inside.ensures.rising rise;
+      has =
+          c.in_ok-self-inside.ensures.has rise;
+    }) held
     (subst (λ (a : List KeyedAttribute). HasEntry es c.args.number a) (sym c.attributes.ensures) there)))

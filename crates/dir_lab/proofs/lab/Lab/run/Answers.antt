@@ -11,25 +11,36 @@ use Rattle.dir_lab.proofs.Searches.{searches_are_told}
 use Rattle.dir_lab.proofs.lab.Lab.run.Goals as goal
 
 pub returns-clause-searches : goal.returns-clause-searches
-returns-clause-searches c = searches_are_told (arc_value c.args.self.now.schema) c.args.self.now.suffix c.args.self.now.count c.args.events.items (map shown_view c.loop-event.run.shown.items)
-    (λ size. shown_all (arc_value c.args.self.now.schema) c.args.self.now.suffix c.args.self.now.count c.loop-event.event-iterator.rest.items (world c.loop-event.run.cluster) (records_by c.loop-event.run.kept.items)
-    (map shown_view c.loop-event.run.shown.items) (played (arc_value c.args.self.now.schema) c.args.self.now.suffix c.args.self.now.count c.args.events.items) c.loop-event.invariant.shown
+returns-clause-searches c = searches_are_told (arc_value c.args.self.now.schema) c.args.self.now.suffix
+    c.args.self.now.count c.args.events.items (map shown_view c.loop-event.run.shown.items)
+    (λ size. shown_all (arc_value c.args.self.now.schema) c.args.self.now.suffix c.args.self.now.count
+    c.loop-event.event-iterator.rest.items (world c.loop-event.run.cluster) (records_by c.loop-event.run.kept.items)
+    (map shown_view c.loop-event.run.shown.items) (played (arc_value c.args.self.now.schema) c.args.self.now.suffix
+    c.args.self.now.count c.args.events.items) c.loop-event.invariant.shown
     (nil_from_length c.loop-event.event-iterator.rest.items (omega (arith, c.in-None.ensures.steps.0)))
-    ∙ played_by (arc_value c.args.self.now.schema) c.args.self.now.suffix c.args.self.now.count size c.args.events.items)
+    ∙ played_by (arc_value c.args.self.now.schema) c.args.self.now.suffix c.args.self.now.count size
+    c.args.events.items)
 
 pub returns-clause-replies : goal.returns-clause-replies
-returns-clause-replies c = replies_are_of_committed (arc_value c.args.self.now.schema) c.args.self.now.suffix c.args.self.now.count c.args.events.items (map shown_view c.loop-event.run.shown.items)
-    (λ size. shown_all (arc_value c.args.self.now.schema) c.args.self.now.suffix c.args.self.now.count c.loop-event.event-iterator.rest.items (world c.loop-event.run.cluster) (records_by c.loop-event.run.kept.items)
-    (map shown_view c.loop-event.run.shown.items) (played (arc_value c.args.self.now.schema) c.args.self.now.suffix c.args.self.now.count c.args.events.items) c.loop-event.invariant.shown
+returns-clause-replies c = replies_are_of_committed (arc_value c.args.self.now.schema) c.args.self.now.suffix
+    c.args.self.now.count c.args.events.items (map shown_view c.loop-event.run.shown.items)
+    (λ size. shown_all (arc_value c.args.self.now.schema) c.args.self.now.suffix c.args.self.now.count
+    c.loop-event.event-iterator.rest.items (world c.loop-event.run.cluster) (records_by c.loop-event.run.kept.items)
+    (map shown_view c.loop-event.run.shown.items) (played (arc_value c.args.self.now.schema) c.args.self.now.suffix
+    c.args.self.now.count c.args.events.items) c.loop-event.invariant.shown
     (nil_from_length c.loop-event.event-iterator.rest.items (omega (arith, c.in-None.ensures.steps.0)))
-    ∙ played_by (arc_value c.args.self.now.schema) c.args.self.now.suffix c.args.self.now.count size c.args.events.items)
+    ∙ played_by (arc_value c.args.self.now.schema) c.args.self.now.suffix c.args.self.now.count size
+    c.args.events.items)
 
 pub returns-clause-committed : goal.returns-clause-committed
 returns-clause-committed c = λ size. committed_is_one c.args.self.now.count c.args.events.items size
 
 pub returns-clause-shown : goal.returns-clause-shown
 returns-clause-shown c =
-    (λ size. shown_all (arc_value c.args.self.now.schema) c.args.self.now.suffix c.args.self.now.count c.loop-event.event-iterator.rest.items (world c.loop-event.run.cluster) (records_by c.loop-event.run.kept.items)
-    (map shown_view c.loop-event.run.shown.items) (played (arc_value c.args.self.now.schema) c.args.self.now.suffix c.args.self.now.count c.args.events.items) c.loop-event.invariant.shown
+    (λ size. shown_all (arc_value c.args.self.now.schema) c.args.self.now.suffix c.args.self.now.count
+    c.loop-event.event-iterator.rest.items (world c.loop-event.run.cluster) (records_by c.loop-event.run.kept.items)
+    (map shown_view c.loop-event.run.shown.items) (played (arc_value c.args.self.now.schema) c.args.self.now.suffix
+    c.args.self.now.count c.args.events.items) c.loop-event.invariant.shown
     (nil_from_length c.loop-event.event-iterator.rest.items (omega (arith, c.in-None.ensures.steps.0)))
-    ∙ played_by (arc_value c.args.self.now.schema) c.args.self.now.suffix c.args.self.now.count size c.args.events.items)
+    ∙ played_by (arc_value c.args.self.now.schema) c.args.self.now.suffix c.args.self.now.count size
+    c.args.events.items)

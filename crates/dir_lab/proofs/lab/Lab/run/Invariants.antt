@@ -9,6 +9,7 @@ use Rattle.dir_lab.proofs.lab.Lab.run.Given as goal
 abbrev pub invariant-loop-event : goal.invariant-loop-event
 invariant-loop-event l = record {
   running : IsRunning (arc_value l.self.schema) l.self.suffix l.self.count l.run;
-  shown : map shown_view l.run.shown.items ++ played_from (arc_value l.self.schema) l.self.suffix l.self.count l.event-iterator.rest.items (world l.run.cluster) (records_by l.run.kept.items)
+  shown : map shown_view l.run.shown.items ++ played_from (arc_value l.self.schema) l.self.suffix l.self.count
+      l.event-iterator.rest.items (world l.run.cluster) (records_by l.run.kept.items)
       ≡ played (arc_value l.self.schema) l.self.suffix l.self.count l.fn.events.items;
 }

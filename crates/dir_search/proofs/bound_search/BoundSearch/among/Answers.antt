@@ -11,7 +11,8 @@ use Rattle.dir_search.proofs.Few.{among as found_among, true_here}
 use Rattle.dir_search.proofs.bound_search.BoundSearch.among.Goals as goal
 
 pub start-requires-clause-guides : goal.start-requires-clause-guides
-start-requires-clause-guides c = rw (c.visit.ensures, c.tree-tree.ensures, c.of_set-scope.ensures) (c.in_ok-sided.ensures.guides c.args.numbers.now c.requires)
+start-requires-clause-guides c = rw (c.visit.ensures, c.tree-tree.ensures, c.of_set-scope.ensures)
+    (c.in_ok-sided.ensures.guides c.args.numbers.now c.requires)
 
 pub show_found-requires : goal.show_found-requires
 show_found-requires c = record {
@@ -32,10 +33,18 @@ returns c =
     let ks = c.args.numbers.now in
     let lists = lists_of c.args.self.now.indexed.now in
     let sided = c.in_ok-sided.sided in
-    let shown = rw (c.in_ok-running.ensures.numbers, c.in_ok-running.ensures.undecided, c.of_set-scope.ensures, c.visit.ensures, c.tree-tree.ensures) at c.show_found.ensures in
+    let shown = rw (
+      c.in_ok-running.ensures.numbers,
+      c.in_ok-running.ensures.undecided,
+      c.of_set-scope.ensures,
+      c.visit.ensures,
+      c.tree-tree.ensures,
+    ) at c.show_found.ensures in
     let found : IfOk c.show_found.result (λ a. FindsAmong a s q ix b d ks) =
     IfOk-weaker c.show_found.result _ _
-    (λ a h. found_among a s q ix b d ks (is_open (is_in lists ks sided.must) (is_in lists ks sided.may)) sided.must sided.may
-    c.args.self.now.bound_on (c.in_ok-sided.ensures.few ks c.requires) c.in_ok-sided.ensures.plans (c.in_ok-sided.ensures.told ks c.requires) h)
+    (λ a h. found_among a s q ix b d ks (is_open (is_in lists ks sided.must) (is_in lists ks sided.may)) sided.must
+    sided.may
+    c.args.self.now.bound_on (c.in_ok-sided.ensures.few ks c.requires) c.in_ok-sided.ensures.plans
+    (c.in_ok-sided.ensures.told ks c.requires) h)
     shown in
     found

@@ -11,9 +11,12 @@ pub returns-in-SingleLevel : goal.returns-in-SingleLevel
 returns-in-SingleLevel c = among_scope c.level.result c.args.self.now SingleLevel c.in-SingleLevel.is c.level.ensures
 
 pub returns-in-WholeSubtree : goal.returns-in-WholeSubtree
-returns-in-WholeSubtree c = among_scope c.subtree.result c.args.self.now WholeSubtree c.in-WholeSubtree.is c.subtree.ensures
+returns-in-WholeSubtree c = among_scope c.subtree.result c.args.self.now WholeSubtree c.in-WholeSubtree.is
+    c.subtree.ensures
 
 -- no entry is in the scope that is none
 pub returns-in-SubordinateSubtree : goal.returns-in-SubordinateSubtree
 returns-in-SubordinateSubtree c =
-    among_scope c.nothing.result c.args.self.now SubordinateSubtree c.in-SubordinateSubtree.is (among_same c.nothing.result c.args.self.now _ _ (numbers_nowhere c.args.self.now.indexed.now.tree.entries) c.nothing.ensures)
+    among_scope c.nothing.result c.args.self.now SubordinateSubtree c.in-SubordinateSubtree.is
+    (among_same c.nothing.result c.args.self.now _ _ (numbers_nowhere c.args.self.now.indexed.now.tree.entries)
+    c.nothing.ensures)

@@ -12,5 +12,7 @@ returns-in_ok-parent-in-None-clause-spelled c =
     let t = c.self.inside.tree.now in
     let e = entered_of c.self.inside.number c.self.inside.held.now in
     rw (← c.self.view_is)
-    (subst (λ (n : List RdnModel). option_map (λ (x : Entered). x.name) (find (rdns n) t.entries) ≡ Some n) (sym c.in_ok-parent-in-None.ensures)
-    (parent_spelled (rdns t.suffix) t.entries e c.is_spelled.ensures c.self.invariant.here (rw (← c.self.view_is) at c.requires.root)))
+    (subst (λ (n : List RdnModel). option_map (λ (x : Entered). x.name) (find (rdns n) t.entries) ≡ Some n)
+    (sym c.in_ok-parent-in-None.ensures)
+    (parent_spelled (rdns t.suffix) t.entries e c.is_spelled.ensures c.self.invariant.here
+    (rw (← c.self.view_is) at c.requires.root)))

@@ -21,10 +21,14 @@ returns-clause-ok c =
     let t = c.self.inside.held.tree in
     let f = c.in_ok-number.field-0 in
     let asked = rw (c.deref.ensures, c.tree.ensures) at c.in_ok-number.ensures.ok in
-    let judged : renamed_all (directory (arc_value c.self.inside.schema) t) (modify_dn_view c.args.request.now) ≡ Ok (moved (rdns f.before) f.after (attributes_of f.entry) (map named t.entries)) =
-    ap (λ (r : Result MoveModel ReplyModel). then r (λ m. Ok (moved (rdns m.before) m.after m.attributes (map named t.entries)))) asked in
+    let judged : renamed_all (directory (arc_value c.self.inside.schema) t) (modify_dn_view c.args.request.now) ≡
+    Ok (moved (rdns f.before) f.after (attributes_of f.entry) (map named t.entries)) =
+    ap (λ (r : Result MoveModel ReplyModel).
+    then r (λ m. Ok (moved (rdns m.before) m.after m.attributes (map named t.entries)))) asked in
     let placed = rw c.tree.ensures at c.in_ok-number.ensures.placed in
     let renamed = rw (c.rdns.ensures, c.in_ok-entry.ensures) at c.in_ok-rename.ensures.ok in
-    let entries : c.rename.new.self.tree.entries ≡ tree.moved (rdns f.before) (name_placed (rdns t.suffix) f.after t.entries) f.entry t.entries = ap (λ (i : IndexedModel). i.tree.entries) renamed in
-    let made = moved_placed (rdns f.before) f.after (name_placed (rdns t.suffix) f.after t.entries) f.entry t.entries c.rename.new.self.tree.entries entries placed in
+    let entries : c.rename.new.self.tree.entries ≡ tree.moved (rdns f.before) (name_placed (rdns t.suffix) f.after
+    t.entries) f.entry t.entries = ap (λ (i : IndexedModel). i.tree.entries) renamed in
+    let made = moved_placed (rdns f.before) f.after (name_placed (rdns t.suffix) f.after t.entries) f.entry t.entries
+    c.rename.new.self.tree.entries entries placed in
     rw (← c.self.view_is) (judged ∙ ap (λ (l : List NamedEntry). Ok l) (sym made))

@@ -8,6 +8,8 @@ loop-i-preserved c =
     let step : c.args.self.now.reach - c.loop-i.i ≡ suc (c.args.self.now.reach - (c.loop-i.i + 1)) = omega arith in
     let short : c.loop-i.count ≤ c.loop-i.i = c.loop-i.invariant.0 in (
       omega arith,
-      count_next (c.args.self.now.reach - c.loop-i.i) (c.args.self.now.reach - (c.loop-i.i + 1)) c.loop-i.at c.in-Some-Under.above c.loop-i.count _ (place_at c.args.self.now.entries) c.in-Some-Under.field-0.now c.in-Some-Under.field-0-1 step
+      count_next (c.args.self.now.reach - c.loop-i.i) (c.args.self.now.reach - (c.loop-i.i + 1)) c.loop-i.at
+          c.in-Some-Under.above c.loop-i.count _ (place_at c.args.self.now.entries) c.in-Some-Under.field-0.now
+          c.in-Some-Under.field-0-1 step
           c.in-Some-Under.ensures c.in-Some-Under.field-0-is c.loop-i.invariant.1,
     )

@@ -7,12 +7,23 @@ use Rattle.dir_tree.proofs.Shown.{below-none}
 use Rattle.dir_tree.proofs.roots.Roots.is_above_all.Goals as goal
 
 pub returns-in-Some : goal.returns-in-Some
-returns-in-Some c = ((λ h. absurd (cc h)), (λ h. absurd (cc (c.in-Some.ensures, below-none c.args.self.now.reach (place_at c.args.self.now.entries) c.args.number c.args.self.now.entries h))))
+returns-in-Some c = (
+  (λ h. absurd (cc h)),
+  (λ h.
+      absurd (cc (
+        c.in-Some.ensures,
+        below-none c.args.self.now.reach (place_at
+            c.args.self.now.entries) c.args.number c.args.self.now.entries h,
+      ))),
+)
 
 pub returns-in-None : goal.returns-in-None
 returns-in-None c = (
-  (λ h. all_below c.args.self.now.reach (place_at c.args.self.now.entries) c.args.number c.args.self.now.entries (sym c.in-None.ensures)
-      (no_run c.run_after.result.now (entries_after (nat_cmp c.args.number) c.args.self.now.entries) c.run_after.ensures ((empty_test c.run_after.result.now).0 (sym c.is_empty.ensures ∙ h)))),
-  (λ b. c.is_empty.ensures ∙ (empty_test c.run_after.result.now).1 (no_rest c.run_after.result.now (entries_after (nat_cmp c.args.number) c.args.self.now.entries) c.run_after.ensures
+  (λ h. all_below c.args.self.now.reach (place_at c.args.self.now.entries) c.args.number c.args.self.now.entries
+      (sym c.in-None.ensures)
+      (no_run c.run_after.result.now (entries_after (nat_cmp c.args.number) c.args.self.now.entries)
+      c.run_after.ensures ((empty_test c.run_after.result.now).0 (sym c.is_empty.ensures ∙ h)))),
+  (λ b. c.is_empty.ensures ∙ (empty_test c.run_after.result.now).1 (no_rest c.run_after.result.now
+      (entries_after (nat_cmp c.args.number) c.args.self.now.entries) c.run_after.ensures
       (none_after c.args.self.now.reach (place_at c.args.self.now.entries) c.args.number c.args.self.now.entries b))),
 )

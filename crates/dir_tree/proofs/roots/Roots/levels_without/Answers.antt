@@ -9,6 +9,8 @@ use Rattle.dir_tree.proofs.roots.Roots.levels_without.Goals as goal
 pub returns : goal.returns
 returns c =
     if_ok _ _ c.without_below.result
-    (λ m e. gone_after (rdns c.args.self.now.suffix) c.args.self.now.root c.args.number c.args.self.now.reach (place_at c.args.self.now.entries) (step_at c.args.self.now.levels) (step_at c.in_ok-levels.levels)
-    (below_at c.args.self.now.levels) (below_at c.in_ok-levels.levels) (below_at m) c.requires.hung c.requires.listed c.requires.leaf c.in_ok-levels.ensures e (λ a x. refl))
+    (λ m e. gone_after (rdns c.args.self.now.suffix) c.args.self.now.root c.args.number c.args.self.now.reach
+    (place_at c.args.self.now.entries) (step_at c.args.self.now.levels) (step_at c.in_ok-levels.levels)
+    (below_at c.args.self.now.levels) (below_at c.in_ok-levels.levels) (below_at m) c.requires.hung c.requires.listed
+    c.requires.leaf c.in_ok-levels.ensures e (λ a x. refl))
     c.without_below.ensures

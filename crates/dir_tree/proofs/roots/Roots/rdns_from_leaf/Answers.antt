@@ -7,4 +7,5 @@ use Rattle.dir_tree.proofs.LevelFacts.{if_ok}
 use Rattle.dir_tree.proofs.roots.Roots.rdns_from_leaf.Goals as goal
 
 pub returns : goal.returns
-returns c = if_ok _ _ c.rdns_up.result (λ (v : Vec (Bor RdnModel) Global) e. sym (reverse-reverse (map (λ (r : Bor RdnModel). r.now) v.items)) ∙ ap reverse e) c.rdns_up.ensures
+returns c = if_ok _ _ c.rdns_up.result (λ (v : Vec (Bor RdnModel) Global) e.
+    sym (reverse-reverse (map (λ (r : Bor RdnModel). r.now) v.items)) ∙ ap reverse e) c.rdns_up.ensures

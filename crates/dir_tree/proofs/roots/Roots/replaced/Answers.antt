@@ -12,7 +12,8 @@ pub returns-in_ok-entries-in-Some-clause-tree : goal.returns-in_ok-entries-in-So
 returns-in_ok-entries-in-Some-clause-tree c =
     if_ok _ _ c.with_entries.result
     (λ (r : Roots) e. subst IsTree (sym e)
-    (replaced_tree c.args.self.now c.args.number c.in-Some.standing.now _ c.in_ok-entries-in-Some.entries c.requires (sym c.in-Some.ensures) c.in_ok-share-in-Some.ensures c.in_ok-share-in-Some-2.ensures
+    (replaced_tree c.args.self.now c.args.number c.in-Some.standing.now _ c.in_ok-entries-in-Some.entries c.requires
+    (sym c.in-Some.ensures) c.in_ok-share-in-Some.ensures c.in_ok-share-in-Some-2.ensures
     c.in_ok-entries-in-Some.ensures c.rises.ensures))
     c.with_entries.ensures
 
@@ -20,11 +21,13 @@ pub returns-in_ok-entries-in-Some-clause-shown : goal.returns-in_ok-entries-in-S
 returns-in_ok-entries-in-Some-clause-shown c =
     if_ok _ _ c.with_entries.result
     (λ (r : Roots) e. ap shown e
-    ∙ replaced_shown c.args.self.now c.args.number c.in-Some.standing.now _ c.in_ok-entries-in-Some.entries c.requires (sym c.in-Some.ensures) c.in_ok-share-in-Some.ensures c.in_ok-entries-in-Some.ensures)
+    ∙ replaced_shown c.args.self.now c.args.number c.in-Some.standing.now _ c.in_ok-entries-in-Some.entries c.requires
+    (sym c.in-Some.ensures) c.in_ok-share-in-Some.ensures c.in_ok-entries-in-Some.ensures)
     c.with_entries.ensures
 
 pub returns-in-None-clause-shown : goal.returns-in-None-clause-shown
 returns-in-None-clause-shown c =
     if_ok _ _ c.share-in-None.result
-    (λ (r : Roots) e. ap shown e ∙ sym (replaced-none c.args.self.now.reach (place_at c.args.self.now.entries) c.args.number c.args.entry c.args.self.now.entries (sym c.in-None.ensures)))
+    (λ (r : Roots) e. ap shown e ∙ sym (replaced-none c.args.self.now.reach (place_at c.args.self.now.entries)
+    c.args.number c.args.entry c.args.self.now.entries (sym c.in-None.ensures)))
     c.share-in-None.ensures

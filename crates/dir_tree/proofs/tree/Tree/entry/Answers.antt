@@ -8,5 +8,6 @@ use Rattle.dir_tree.proofs.tree.Tree.entry.Goals as goal
 
 pub returns : goal.returns
 returns c =
-    subst (λ (v : TreeModel). option_map (λ (e : Bor (List KeyedAttribute)). e.now) c.entry.result ≡ option_map (λ (e : Entered). e.entry) (entry_at c.args.number v.entries)) c.self.view_is
+    subst (λ (v : TreeModel). option_map (λ (e : Bor (List KeyedAttribute)). e.now) c.entry.result ≡
+    option_map (λ (e : Entered). e.entry) (entry_at c.args.number v.entries)) c.self.view_is
     (copied_now c.entry.result ∙ c.entry.ensures ∙ entry_read c.self.inside.roots c.self.invariant c.args.number)

@@ -5,4 +5,5 @@ use Rattle.dir_tree.proofs.TreeReads.{front_as}
 use Rattle.dir_tree.proofs.tree.Tree.front.Goals as goal
 
 pub returns : goal.returns
-returns c = subst (λ (v : TreeModel). c.front.result ≡ front (rdns c.args.name.now) v.entries) c.self.view_is (c.front.ensures ∙ front_as c.self.inside.roots c.self.invariant c.args.name.now)
+returns c = subst (λ (v : TreeModel). c.front.result ≡ front (rdns c.args.name.now) v.entries) c.self.view_is
+    (c.front.ensures ∙ front_as c.self.inside.roots c.self.invariant c.args.name.now)

@@ -4,4 +4,5 @@ use Rattle.dir_tree.proofs.TreeReads.{below_from}
 use Rattle.dir_tree.proofs.tree.Tree.has_below.Goals as goal
 
 pub returns-in-Some : goal.returns-in-Some
-returns-in-Some c = ap (nat_lt 1) c.len.ensures ∙ below_from (rdns c.args.name.now) c.args.self.now.entries c.in-Some.numbers.now c.is_directory.ensures.differ c.requires.here c.in-Some.ensures
+returns-in-Some c = ap (nat_lt 1) c.len.ensures ∙ below_from (rdns c.args.name.now) c.args.self.now.entries
+    c.in-Some.numbers.now c.is_directory.ensures.differ c.requires.here c.in-Some.ensures

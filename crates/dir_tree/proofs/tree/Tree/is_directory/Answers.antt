@@ -5,4 +5,5 @@ use Rattle.dir_tree.proofs.TreeReads.{directory_read}
 use Rattle.dir_tree.proofs.tree.Tree.is_directory.Goals as goal
 
 pub returns : goal.returns
-returns c = subst (λ (v : TreeModel). IsDirectory (rdns v.suffix) v.entries) c.self.view_is (directory_read c.self.inside.roots c.self.invariant)
+returns c = subst (λ (v : TreeModel). IsDirectory (rdns v.suffix) v.entries) c.self.view_is
+    (directory_read c.self.inside.roots c.self.invariant)

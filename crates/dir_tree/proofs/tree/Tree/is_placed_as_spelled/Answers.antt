@@ -6,4 +6,5 @@ use Rattle.dir_tree.proofs.TreeReads.{placed_read}
 use Rattle.dir_tree.proofs.tree.Tree.is_placed_as_spelled.Goals as goal
 
 pub returns : goal.returns
-returns c = subst (λ (v : TreeModel). IsPlacedAsSpelled (rdns v.suffix) v.entries) c.self.view_is (placed_read c.self.inside.roots c.self.invariant)
+returns c = subst (λ (v : TreeModel). IsPlacedAsSpelled (rdns v.suffix) v.entries) c.self.view_is
+    (placed_read c.self.inside.roots c.self.invariant)

@@ -5,4 +5,5 @@ use Rattle.dir_tree.proofs.TreeReads.{rooted_read}
 use Rattle.dir_tree.proofs.tree.Tree.is_rooted.Goals as goal
 
 pub returns : goal.returns
-returns c = subst (λ (v : TreeModel). find (rdns v.suffix) v.entries ≡ None → v.entries ≡ []) c.self.view_is (rooted_read c.self.inside.roots c.self.invariant)
+returns c = subst (λ (v : TreeModel). find (rdns v.suffix) v.entries ≡ None → v.entries ≡ []) c.self.view_is
+    (rooted_read c.self.inside.roots c.self.invariant)

@@ -5,4 +5,5 @@ use Rattle.dir_tree.proofs.TreeReads.{within_all_read}
 use Rattle.dir_tree.proofs.tree.Tree.is_within.Goals as goal
 
 pub returns : goal.returns
-returns c = subst (λ (v : TreeModel). numbers (is_at_or_below (rdns v.suffix)) v.entries ≡ numbers (λ e. true) v.entries) c.self.view_is (within_all_read c.self.inside.roots c.self.invariant)
+returns c = subst (λ (v : TreeModel). numbers (is_at_or_below (rdns v.suffix)) v.entries ≡ numbers (λ e. true)
+    v.entries) c.self.view_is (within_all_read c.self.inside.roots c.self.invariant)

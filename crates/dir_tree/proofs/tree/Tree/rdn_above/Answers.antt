@@ -6,5 +6,6 @@ use Rattle.dir_tree.proofs.tree.Tree.rdn_above.Goals as goal
 
 pub returns : goal.returns
 returns c =
-    subst (λ (v : TreeModel). option_copied c.rdn_above.result ≡ option_and_then (λ (e : Entered). slice_get (reverse e.name) c.args.up) (entry_at c.args.number v.entries)) c.self.view_is
+    subst (λ (v : TreeModel). option_copied c.rdn_above.result ≡ option_and_then
+    (λ (e : Entered). slice_get (reverse e.name) c.args.up) (entry_at c.args.number v.entries)) c.self.view_is
     (c.rdn_above.ensures ∙ above_read c.self.inside.roots c.self.invariant c.args.number c.args.up)

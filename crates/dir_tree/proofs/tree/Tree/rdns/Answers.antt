@@ -8,9 +8,13 @@ use Rattle.dir_tree.proofs.tree.Tree.rdns.Goals as goal
 
 pub returns-in_ok-rdns : goal.returns-in_ok-rdns
 returns-in_ok-rdns c =
-    subst (λ (v : TreeModel). Some (map (λ (r : Bor RdnModel). r.now) c.in_ok-rdns.field-0.items) ≡ option_map (λ (e : Entered). e.name) (entry_at c.args.number v.entries)) c.self.view_is
-    (ap (λ (n : List RdnModel). Some n) c.in_ok-rdns.ensures ∙ name_read c.self.inside.roots c.self.invariant c.args.number (sym c.has_number.ensures ∙ c.if-has_number.true))
+    subst (λ (v : TreeModel). Some (map (λ (r : Bor RdnModel). r.now) c.in_ok-rdns.field-0.items) ≡
+    option_map (λ (e : Entered). e.name) (entry_at c.args.number v.entries)) c.self.view_is
+    (ap (λ (n : List RdnModel). Some n) c.in_ok-rdns.ensures ∙ name_read c.self.inside.roots c.self.invariant
+    c.args.number (sym c.has_number.ensures ∙ c.if-has_number.true))
 
 pub returns-else-has_number : goal.returns-else-has_number
 returns-else-has_number c =
-    subst (λ (v : TreeModel). None ≡ option_map (λ (e : Entered). e.name) (entry_at c.args.number v.entries)) c.self.view_is (nameless_read c.self.inside.roots c.self.invariant (λ (e : Entered). e.name) c.args.number (sym c.has_number.ensures ∙ c.if-has_number.false))
+    subst (λ (v : TreeModel). None ≡ option_map (λ (e : Entered). e.name) (entry_at c.args.number v.entries))
+    c.self.view_is (nameless_read c.self.inside.roots c.self.invariant (λ (e : Entered). e.name) c.args.number
+    (sym c.has_number.ensures ∙ c.if-has_number.false))

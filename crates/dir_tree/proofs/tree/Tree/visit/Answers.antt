@@ -7,4 +7,8 @@ use Rattle.dir_tree.proofs.tree.Tree.visit.Goals as goal
 pub of-requires : goal.of-requires
 of-requires c =
     subst (λ (v : TreeModel). IsVisit v c.self.inside.roots.entries) c.self.view_is
-    (record { entries = entry_read c.self.inside.roots c.self.invariant; names = under_read c.self.inside.roots c.self.invariant })
+    (record {
+      entries = entry_read c.self.inside.roots c.self.invariant;
+      names = under_read c.self.inside.roots
+          c.self.invariant;
+    })

@@ -8,5 +8,6 @@ pub returns-in-Ok-clause-crash : goal.returns-in-Ok-clause-crash
 returns-in-Ok-clause-crash c = λ image now.
     let was = c.args.self.now in
     let h = was.known.history in
-    let same : image ≡ seen_after h.base (view_events h) = subst (λ (k : History). MayLeave k.base (view_events k) image) c.settle.ensures now in
+    let same : image ≡ seen_after h.base (view_events h) = subst (λ (k : History). MayLeave k.base (view_events k)
+    image) c.settle.ensures now in
     subst (MayLeave h.base (view_events h)) (sym same) (view_is_left h.base (view_events h) was.writes_within)

@@ -8,5 +8,6 @@ pub returns-in-Ok-clause-crash : goal.returns-in-Ok-clause-crash
 returns-in-Ok-clause-crash c = λ image now.
     let was = c.args.self.now.octets in
     let h = was.known.history in
-    let same : image ≡ seen_after h.base h.events = subst (λ (k : History). MayLeave k.base k.events image) c.settle.ensures now in
+    let same : image ≡ seen_after h.base h.events = subst (λ (k : History). MayLeave k.base k.events image)
+    c.settle.ensures now in
     subst (MayLeave h.base h.events) (sym same) (seen_is_left h.base h.events was.writes_within)

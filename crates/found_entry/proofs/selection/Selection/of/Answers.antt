@@ -9,5 +9,6 @@ use Rattle.found_entry.proofs.selection.Selection.of.Goals as goal
 
 pub loop-selector-init : goal.loop-selector-init
 loop-selector-init c = λ t.
-    nothing_yet c.are_none.result (is_none c.args.selectors.now) (is_held c.new.result) t (superiors (length c.args.schema.now.types) c.args.schema.now.types t) c.are_none.ensures
+    nothing_yet c.are_none.result (is_none c.args.selectors.now) (is_held c.new.result) t
+    (superiors (length c.args.schema.now.types) c.args.schema.now.types t) c.are_none.ensures
     (λ q. ap (λ (ks : List ℕ). list_any (is_at (nat_cmp q)) ks) c.new.ensures.empty)

@@ -8,4 +8,5 @@ use Rattle.found_entry.proofs.shows.Shows.show_all.Given as goal
 abbrev pub invariant-loop-attribute : goal.invariant-loop-attribute
 invariant-loop-attribute l =
     map lent_view l.all.items
-    ≡ map (shown l.self.schema l.self.types_only) (filter (λ a. is_selected l.self.schema l.self.selectors a.kind) (map without_keys (take l.attribute-index l.attributes)))
+    ≡ map (shown l.self.schema l.self.types_only) (filter (λ a. is_selected l.self.schema l.self.selectors a.kind)
+    (map without_keys (take l.attribute-index l.attributes)))

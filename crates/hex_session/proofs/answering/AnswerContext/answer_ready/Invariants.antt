@@ -7,7 +7,8 @@ use Rattle.hex_session.proofs.answering.AnswerContext.answer_ready.Given as goal
 -- the messages so far are answered
 abbrev pub invariant-loop-answered : goal.invariant-loop-answered
 invariant-loop-answered g l =
-    SoFar g.D.Directory.allows (config_view l.fn.self.config) l.fn.directory l.directory (session_view l.fn.session) (session_view l.session) (g.W.Write.contents l.fn.output) (g.W.Write.contents l.output)
+    SoFar g.D.Directory.allows (config_view l.fn.self.config) l.fn.directory l.directory (session_view l.fn.session)
+    (session_view l.session) (g.W.Write.contents l.fn.output) (g.W.Write.contents l.output)
 
 abbrev pub decreases-loop-answered : goal.decreases-loop-answered
 decreases-loop-answered g l = length (session_view l.session).framed.ready

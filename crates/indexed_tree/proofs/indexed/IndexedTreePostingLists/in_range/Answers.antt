@@ -9,11 +9,16 @@ use Rattle.indexed_tree.proofs.indexed.IndexedTreePostingLists.in_range.Goals as
 pub returns-in-Some : goal.returns-in-Some
 returns-in-Some c =
     let r = c.args.range.now in
-    let p : List KeyedAttribute → Bool = λ e. (kinds_of c.self.inside.postings.indexes r.type_id).ordering && has_in_range r e in
-    rw (← c.self.view_is) ((rw (c.indexes.ensures, c.deref.ensures) at c.has_in_range.ensures) ∙ sym (told_by_held p c.args.number c.self.inside.tree.entries c.in-Some.held.now c.is_directory.ensures.rise c.in-Some.ensures))
+    let p : List KeyedAttribute → Bool = λ e. (kinds_of c.self.inside.postings.indexes r.type_id).ordering
+    && has_in_range r e in
+    rw (← c.self.view_is) ((rw (c.indexes.ensures, c.deref.ensures) at c.has_in_range.ensures)
+    ∙ sym (told_by_held p c.args.number c.self.inside.tree.entries c.in-Some.held.now c.is_directory.ensures.rise
+    c.in-Some.ensures))
 
 pub returns-in-None : goal.returns-in-None
 returns-in-None c =
     let r = c.args.range.now in
-    let p : List KeyedAttribute → Bool = λ e. (kinds_of c.self.inside.postings.indexes r.type_id).ordering && has_in_range r e in
-    rw (← c.self.view_is) (sym (told_by_none p c.args.number c.self.inside.tree.entries c.is_directory.ensures.rise c.in-None.ensures))
+    let p : List KeyedAttribute → Bool = λ e. (kinds_of c.self.inside.postings.indexes r.type_id).ordering
+    && has_in_range r e in
+    rw (← c.self.view_is) (sym (told_by_none p c.args.number c.self.inside.tree.entries c.is_directory.ensures.rise
+    c.in-None.ensures))

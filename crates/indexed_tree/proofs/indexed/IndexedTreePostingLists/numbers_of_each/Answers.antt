@@ -15,5 +15,6 @@ pub returns : goal.returns
 returns c =
     ok_weaker _ _
     (λ v h. h ∙ map_same (λ p. list_of c.self.inside.postings p.now) (λ p. (lists_of c.args.self.now).posting p.now)
-    (λ p. c.self.invariant.postings p.now ∙ ap (λ (t : IndexedModel). (lists_of t).posting p.now) c.self.view_is) c.args.postings.now)
+    (λ p. c.self.invariant.postings p.now ∙ ap (λ (t : IndexedModel). (lists_of t).posting p.now) c.self.view_is)
+    c.args.postings.now)
     c.numbers_of_each.result c.numbers_of_each.ensures

@@ -9,23 +9,31 @@ use Rattle.journal.proofs.journal.Journal.read_empty.Goals as goal
 pub returns-then-branch-clause-not_empty : goal.returns-then-branch-clause-not_empty
 returns-then-branch-clause-not_empty g c = λ no none.
     let image = g.D.Device.seen c.new.new.device in
-    let step = subst (λ b. Advances b c.in_ok-reader.reader c.advance.new.self image) c.if-branch.true c.in_ok-advance.ensures.string in
-    not_empty_read c.in_ok-reader.reader c.advance.new.self image c.in_ok-reader.ensures.end step (ap recorded c.new.ensures.seen ∙ none)
+    let step = subst (λ b. Advances b c.in_ok-reader.reader c.advance.new.self image) c.if-branch.true
+    c.in_ok-advance.ensures.string in
+    not_empty_read c.in_ok-reader.reader c.advance.new.self image c.in_ok-reader.ensures.end step
+    (ap recorded c.new.ensures.seen ∙ none)
 
 pub returns-clause-none : goal.returns-clause-none
 returns-clause-none g c =
     let image = g.D.Device.seen c.new.new.device in
-    let step = subst (λ b. Advances b c.in_ok-reader.reader c.advance.new.self image) c.if-branch.false c.in_ok-advance.ensures.string in
+    let step = subst (λ b. Advances b c.in_ok-reader.reader c.advance.new.self image) c.if-branch.false
+    c.in_ok-advance.ensures.string in
     ap₂ (λ k (l : List ℕ). is_whole (drop k l)) step.stays c.advance.ensures.seen ∙ step.none
 
 pub returns-clause-empty : goal.returns-clause-empty
 returns-clause-empty g c =
     let image = g.D.Device.seen c.new.new.device in
-    let step = subst (λ b. Advances b c.in_ok-reader.reader c.advance.new.self image) c.if-branch.false c.in_ok-advance.ensures.string in
-    ap recorded (sym c.new.ensures.seen) ∙ empty_read c.in_ok-reader.reader c.advance.new.self image c.in_ok-reader.ensures.end step
+    let step = subst (λ b. Advances b c.in_ok-reader.reader c.advance.new.self image) c.if-branch.false
+    c.in_ok-advance.ensures.string in
+    ap recorded (sym c.new.ensures.seen) ∙ empty_read c.in_ok-reader.reader c.advance.new.self image
+    c.in_ok-reader.ensures.end step
 
 pub returns-clause-any_moment : goal.returns-clause-any_moment
 returns-clause-any_moment g c =
     let d = c.args.self.now.device in
-    chained g.D.Device.moment g.D.Device.left_since d c.new.new.device c.advance.new.device (λ (f : List ℕ). recorded f ≡ recorded (g.D.Device.seen d)) c.new.ensures.any_moment
-    (subst (λ (l : List (List ℕ)). LeavesOnly g.D.Device.moment g.D.Device.left_since c.new.new.device c.advance.new.device (λ (f : List ℕ). recorded f ≡ l)) (ap recorded c.new.ensures.seen) c.advance.ensures.any_moment)
+    chained g.D.Device.moment g.D.Device.left_since d c.new.new.device c.advance.new.device
+    (λ (f : List ℕ). recorded f ≡ recorded (g.D.Device.seen d)) c.new.ensures.any_moment
+    (subst (λ (l : List (List ℕ)). LeavesOnly g.D.Device.moment g.D.Device.left_since c.new.new.device
+    c.advance.new.device (λ (f : List ℕ). recorded f ≡ l)) (ap recorded c.new.ensures.seen)
+    c.advance.ensures.any_moment)

@@ -3,4 +3,5 @@ use Rattle.journal.proofs.Advancing.{first_read}
 use Rattle.journal.proofs.reader.StringReader.new.Goals as goal
 
 pub returns-clause-read : goal.returns-clause-read
-returns-clause-read g c = first_read _ _ refl (c.in_ok-size.ensures.length ∙ ap length (sym c.len.ensures.seen)) refl (search rules)
+returns-clause-read g c = first_read _ _ refl (c.in_ok-size.ensures.length ∙ ap length (sym c.len.ensures.seen)) refl
+    (search rules)

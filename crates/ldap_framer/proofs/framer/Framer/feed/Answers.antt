@@ -5,8 +5,10 @@ use Rattle.ldap_framer.proofs.framer.Framer.feed.Goals as goal
 
 pub returns-clause-stream : goal.returns-clause-stream
 returns-clause-stream c = λ stream handed seen.
-    seen_ok c.take.result (framed c.args.self.now) (framed c.take.new.self) c.args.piece.now stream handed c.take.ensures.ok seen
+    seen_ok c.take.result (framed c.args.self.now) (framed c.take.new.self) c.args.piece.now stream handed
+    c.take.ensures.ok seen
 
 pub returns-clause-stopped : goal.returns-clause-stopped
 returns-clause-stopped c = λ stream handed seen.
-    seen_err c.take.result (framed c.args.self.now) (framed c.take.new.self) c.args.piece.now stream handed c.take.ensures.fault seen
+    seen_err c.take.result (framed c.args.self.now) (framed c.take.new.self) c.args.piece.now stream handed
+    c.take.ensures.fault seen

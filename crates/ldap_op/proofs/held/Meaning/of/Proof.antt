@@ -45,17 +45,26 @@ v = vstruct (vcons (vstruct vnil) vnil)
 meets : {M : Type 1} {𝓤 : Ura M} (𝓛 : Logic 𝓤) → (at_mem : Memory → SProp 𝓤) (run : Routine → Fun 𝓤) (𝓣 : Tables 𝓤 𝓛.H)
     → Meets 𝓛 it.signature (WpFn 𝓤 𝓛.H 𝓣.C 𝓣.Λ code.function) (it.spec 𝓛 at_mem run)
 meets {𝓤 = 𝓤} 𝓛 at_mem run 𝓣 =
-    walk_Meets 𝓛 it.ended stayed (Goes-dropped 𝓛 1 (RefOf (0 ∷ []) tt (plain (λ _. Update.the_row)) (λ _. tt)) yes (λ κs x f. refl), tt)
+    walk_Meets 𝓛 it.ended stayed (
+      Goes-dropped 𝓛 1 (RefOf (0 ∷ []) tt (plain (λ _. Update.the_row))
+          (λ _. tt)) yes (λ κs x f. refl),
+      tt,
+    )
     (it.clauses 𝓛 at_mem run) (WpFn 𝓤 𝓛.H 𝓣.C 𝓣.Λ code.function) (WpFn-mono 𝓤 𝓛.H 𝓛.laws 𝓣 code.function)
-    (walked 𝓛 it.ended stayed (it.clauses 𝓛 at_mem run) (WpFn 𝓤 𝓛.H 𝓣.C 𝓣.Λ code.function) (λ κs. (shr_vals, tt)) (λ κs. (shr_Tells (named 0) κs.0 Update.the_row, tt)) (λ κs qs bounds a g are.
+    (walked 𝓛 it.ended stayed (it.clauses 𝓛 at_mem run) (WpFn 𝓤 𝓛.H 𝓣.C 𝓣.Λ code.function) (λ κs. (shr_vals, tt))
+    (λ κs. (shr_Tells (named 0) κs.0 Update.the_row, tt)) (λ κs qs bounds a g are.
     let p : Val = vptr a.0.ref_ptr.0 a.0.ref_ptr.1 in
     let r : Meaning = record { marker = record {}; update = update_view a.0.now } in
-    qed 𝓛 ((raw (alive 𝓛 it.signature κs qs) ⊛ ‵ (owns (types_at it.signature.params κs) a (p ∷ [], tt))) ∷ raw ((it.clauses 𝓛 at_mem run κs a).requires g) ∷ []) ∵ split ! $ keep ! (0 ∷ []) $
+    qed 𝓛 ((raw (alive 𝓛 it.signature κs qs) ⊛ ‵ (owns (types_at it.signature.params κs) a (p ∷ [], tt))) ∷ raw
+    ((it.clauses 𝓛 at_mem run κs a).requires g) ∷ []) ∵ split ! $ keep ! (0 ∷ []) $
     enter ! 𝓣.C 𝓣.Λ code.function (p ∷ []) _ $ alloc_all ! (λ l. pass_all ! refl ((tt, tt), tt) $
-    sets ! (agg ! (no_more !)) refl (tt, tt) $ sets ! (agg ! (and_then ! (get ! refl) (no_more !))) refl (tt, (tt, tt)) $
+    sets ! (agg ! (no_more !)) refl (tt, tt) $ sets ! (agg ! (and_then ! (get ! refl) (no_more !))) refl
+    (tt, (tt, tt)) $
     returns ! (look_at ! 0 refl) $ free_all ! refl $
-    pure_i ! ((T.the_row).own_val r (v ∷ [])) ((λ vss. (tt, ((λ uss. (tt, tt)), tt))), tt) (((vstruct vnil ∷ [], tt), (refl, ((tt, (refl, tt)), tt))), tt) $
-    suffices ! _ (ends_at 𝓛 it.ended stayed (it.clauses 𝓛 at_mem run) ((κs, qs, bounds, a, (p ∷ [], tt)), g) v r (tt, tt) (tt, tt)) $ says ! refl $
+    pure_i ! ((T.the_row).own_val r (v ∷ [])) ((λ vss. (tt, ((λ uss. (tt, tt)), tt))), tt)
+    (((vstruct vnil ∷ [], tt), (refl, ((tt, (refl, tt)), tt))), tt) $
+    suffices ! _ (ends_at 𝓛 it.ended stayed (it.clauses 𝓛 at_mem run) ((κs, qs, bounds, a, (p ∷ [], tt)), g) v r
+    (tt, tt) (tt, tt)) $ says ! refl $
     nothing ! $ nothing ! $ fjoin ! $ move ! (2 ∷ 0 ∷ 1 ∷ []) $ done !)))
 
 pub of_spec : {M : Type 1} → stated.statement M

@@ -8,5 +8,7 @@ use Rattle.ldap_schema.proofs.name_index.NameIndex.of_types.Goals as goal
 pub returns : goal.returns
 returns c =
     found_either (λ (x : TypeModel). x.oid) (λ (x : TypeModel). x.names) c.args.types.now c.loop-number.index
-    (λ q. numbers_done (λ (x : TypeModel). has_name q x.names) _ c.loop-number.number _ _ (drop_of_length-le c.args.types.now c.loop-number-test.false) (c.loop-number.invariant.names q))
-    (λ q. numbers_done (λ (x : TypeModel). bytes_eq q x.oid) _ c.loop-number.number _ _ (drop_of_length-le c.args.types.now c.loop-number-test.false) (c.loop-number.invariant.oids q))
+    (λ q. numbers_done (λ (x : TypeModel). has_name q x.names) _ c.loop-number.number _ _
+    (drop_of_length-le c.args.types.now c.loop-number-test.false) (c.loop-number.invariant.names q))
+    (λ q. numbers_done (λ (x : TypeModel). bytes_eq q x.oid) _ c.loop-number.number _ _
+    (drop_of_length-le c.args.types.now c.loop-number-test.false) (c.loop-number.invariant.oids q))

@@ -5,4 +5,5 @@ use Rattle.ldap_schema.proofs.schema.Schema.class_name.Goals as goal
 
 pub returns-clause-found : goal.returns-clause-found
 returns-clause-found c =
-    rw c.first_name.ensures (class_found c.args.self.now c.args.class_id c.in_ok-object_class.field-0.now (sym c.object_class.ensures ∙ ap option_copied c.in_ok-object_class.was))
+    rw c.first_name.ensures (class_found c.args.self.now c.args.class_id c.in_ok-object_class.field-0.now
+    (sym c.object_class.ensures ∙ ap option_copied c.in_ok-object_class.was))

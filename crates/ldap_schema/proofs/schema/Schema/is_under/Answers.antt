@@ -10,18 +10,22 @@ loopless s t e h = subst (λ (x : SchemaModel). are_loopless x.types x.types 0 �
 
 pub returns-then-eq-clause-chain : goal.returns-then-eq-clause-chain
 returns-then-eq-clause-chain c =
-    as_chain c.args.self.now c.args.below c.args.above c.eq.result (loopless _ _ c.self.view_is c.self.invariant.loopless)
+    as_chain c.args.self.now c.args.below c.args.above c.eq.result
+    (loopless _ _ c.self.view_is c.self.invariant.loopless)
     (c.if-eq.true ∙ sym (under_same c.args.self.now c.args.below c.args.above c.if-eq.ensures))
 
 pub returns-else-eq-clause-table : goal.returns-else-eq-clause-table
 returns-else-eq-clause-table c =
     under_other c.self.inside.types.items c.args.below c.args.above c.leads_to.result c.if-eq.ensures
-    (c.leads_to.ensures ∙ ap (λ (ts : List TypeModel). list_any (λ t. nat_eq t c.args.above) (superiors (length ts) ts c.args.below)) c.as_slice.ensures.value)
+    (c.leads_to.ensures ∙ ap (λ (ts : List TypeModel). list_any (λ t. nat_eq t c.args.above)
+    (superiors (length ts) ts c.args.below)) c.as_slice.ensures.value)
     ∙ ap (λ (s : SchemaModel). is_under s c.args.below c.args.above) c.self.view_is
 
 pub returns-else-eq-clause-chain : goal.returns-else-eq-clause-chain
 returns-else-eq-clause-chain c =
-    as_chain c.args.self.now c.args.below c.args.above c.leads_to.result (loopless _ _ c.self.view_is c.self.invariant.loopless)
+    as_chain c.args.self.now c.args.below c.args.above c.leads_to.result
+    (loopless _ _ c.self.view_is c.self.invariant.loopless)
     (under_other c.self.inside.types.items c.args.below c.args.above c.leads_to.result c.if-eq.ensures
-    (c.leads_to.ensures ∙ ap (λ (ts : List TypeModel). list_any (λ t. nat_eq t c.args.above) (superiors (length ts) ts c.args.below)) c.as_slice.ensures.value)
+    (c.leads_to.ensures ∙ ap (λ (ts : List TypeModel). list_any (λ t. nat_eq t c.args.above)
+    (superiors (length ts) ts c.args.below)) c.as_slice.ensures.value)
     ∙ ap (λ (s : SchemaModel). is_under s c.args.below c.args.above) c.self.view_is)

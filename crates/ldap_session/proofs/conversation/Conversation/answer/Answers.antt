@@ -5,5 +5,7 @@ use Rattle.ldap_session.proofs.conversation.Conversation.answer.Goals as goal
 
 pub returns-clause-continues : goal.returns-clause-continues
 returns-clause-continues g c =
-    continues g.D.Directory.allows (config_view c.args.config.now) (conversation_view c.args.self.now) (conversation_view c.answer_unless_over.new.self)
-    c.args.directory.now c.answer_unless_over.new.directory c.answer_unless_over.result c.answer_unless_over.ensures.step
+    continues g.D.Directory.allows (config_view c.args.config.now) (conversation_view c.args.self.now)
+    (conversation_view c.answer_unless_over.new.self)
+    c.args.directory.now c.answer_unless_over.new.directory c.answer_unless_over.result
+    c.answer_unless_over.ensures.step

@@ -12,7 +12,9 @@ returns-in-Ok-Some-clause-step g c =
     let answers =
     subst
     (λ (r : Result (Option Answered) AnswerError).
-    Answers g.D.Directory.allows (config_view c.args.config.now) (session_view c.args.self.now.session) (session_view c.answer.new.self) c.args.directory.now c.answer.new.directory r)
+    Answers g.D.Directory.allows (config_view c.args.config.now) (session_view c.args.self.now.session)
+    (session_view c.answer.new.self) c.args.directory.now c.answer.new.directory r)
     (c.in-Ok-Some.is ∙ ap Ok c.in-Ok-Some.field-0-is) c.answer.ensures in
-    λ goes. kept_step g.D.Directory.allows (config_view c.args.config.now) (conversation_view c.args.self.now) (conversation_view c.keep.new.self) (session_view c.answer.new.self)
+    λ goes. kept_step g.D.Directory.allows (config_view c.args.config.now) (conversation_view c.args.self.now)
+    (conversation_view c.keep.new.self) (session_view c.answer.new.self)
     c.args.directory.now c.answer.new.directory c.in-Ok-Some.answered c.keep.result answers (c.keep.ensures goes)

@@ -7,6 +7,7 @@ use Rattle.ldap_syntax.proofs.key.Key.is_before.Goals as goal
 
 pub returns : goal.returns
 returns c =
-    same_from_slice_cmp_tested nat_cmp is_lt is_before refl (λ _ _. refl) (λ _ _. refl) (λ x y xs ys o h. grind (arith, nat_tests))
+    same_from_slice_cmp_tested nat_cmp is_lt is_before refl (λ _ _. refl) (λ _ _. refl)
+    (λ x y xs ys o h. grind (arith, nat_tests))
     c.as_octets.result.now c.as_octets-2.result.now c.lt.result c.lt.ensures
     ∙ ap₂ is_before c.as_octets.ensures c.as_octets-2.ensures

@@ -7,5 +7,6 @@ use Rattle.local_directory.proofs.client_table.ClientTable.latest.Goals as goal
 
 pub returns : goal.returns
 returns c =
-    seen_copied c.get.result ∙ ap (option_map kept_view) c.get.ensures.value ∙ sym (get_client c.self.inside.latest.entries c.args.client)
+    seen_copied c.get.result ∙ ap (option_map kept_view) c.get.ensures.value
+    ∙ sym (get_client c.self.inside.latest.entries c.args.client)
     ∙ ap (λ m. map.get m c.args.client) c.self.view_is

@@ -6,7 +6,8 @@ use Rattle.local_directory.proofs.client_table.ClientTable.replace.Goals as goal
 
 pub unreachable-requires : goal.unreachable-requires
 unreachable-requires c =
-    none_there c.self.inside.latest.entries c.args.self.now c.args.client c.self.view_is c.in-Err.ensures.absent c.requires.there
+    none_there c.self.inside.latest.entries c.args.self.now c.args.client c.self.view_is c.in-Err.ensures.absent
+    c.requires.there
 
 pub returns : goal.returns
 returns c =

@@ -9,6 +9,7 @@ pub append-requires : goal.append-requires
 append-requires g c =
     let held = c.args.self.now in record {
       follows =
-          subst (λ (v : ExecutedValue). IsBeginning (with_records held.publisher.published held.publisher.waiting) v) (sym c.executed.ensures)
+          subst (λ (v : ExecutedValue). IsBeginning (with_records held.publisher.published held.publisher.waiting) v)
+          (sym c.executed.ensures)
           (given_begins held.node.executed held.publisher held.shows);
     }

@@ -9,5 +9,7 @@ use Rattle.schema_meaning.proofs.first_lines.FirstLines.has_earlier.Goals as goa
 pub returns : goal.returns
 returns c =
     c.in_ok-earlier.ensures
-    ∙ earlier_found c.self.inside.text.now (number_at c.self.inside.by_name.entries) (number_at c.self.inside.by_oid.entries) c.args.description.now c.self.invariant.0 c.self.invariant.1
-    ∙ ap (λ (s : SchemaTextModel). list_any (is_before c.args.description.now) s.types || list_any (is_before c.args.description.now) s.classes) c.self.view_is
+    ∙ earlier_found c.self.inside.text.now (number_at c.self.inside.by_name.entries)
+    (number_at c.self.inside.by_oid.entries) c.args.description.now c.self.invariant.0 c.self.invariant.1
+    ∙ ap (λ (s : SchemaTextModel). list_any (is_before c.args.description.now) s.types || list_any
+    (is_before c.args.description.now) s.classes) c.self.view_is

@@ -7,13 +7,17 @@ use Rattle.schema_meaning.proofs.ordered.Ordered.find_folded.Goals as goal
 
 pub returns-in-Ok : goal.returns-in-Ok
 returns-in-Ok c =
-    let by = c.in-Ok.ensures.position (λ (e : Vec ℕ Global × ℕ). order e.0.items (map to_ascii_lowercase c.args.word.now)) (always_returns_same _ _ _ (λ a r g called. search rules)) in
+    let by = c.in-Ok.ensures.position (λ (e : Vec ℕ Global × ℕ). order e.0.items
+    (map to_ascii_lowercase c.args.word.now)) (always_returns_same _ _ _ (λ a r g called. search rules)) in
     ap Some (ap (λ (e : Vec ℕ Global × ℕ). e.1) c.index.ensures)
-    ∙ sym (number_found c.self.inside.entries.items _ c.as_slice.ensures.value c.self.invariant (map to_ascii_lowercase c.args.word.now) c.in-Ok.place c.index.result.now c.in-Ok.ensures.bound by)
+    ∙ sym (number_found c.self.inside.entries.items _ c.as_slice.ensures.value c.self.invariant
+    (map to_ascii_lowercase c.args.word.now) c.in-Ok.place c.index.result.now c.in-Ok.ensures.bound by)
     ∙ ap (λ (es : Entries). number_at es (map to_ascii_lowercase c.args.word.now)) c.self.view_is
 
 pub returns-in-Err : goal.returns-in-Err
 returns-in-Err c =
-    let by = c.in-Err.ensures.position (λ (e : Vec ℕ Global × ℕ). order e.0.items (map to_ascii_lowercase c.args.word.now)) (always_returns_same _ _ _ (λ a r g called. search rules)) in
-    number_missing c.self.inside.entries.items _ c.as_slice.ensures.value c.self.invariant (map to_ascii_lowercase c.args.word.now) c.in-Err.field-0 c.in-Err.ensures.bound by
+    let by = c.in-Err.ensures.position (λ (e : Vec ℕ Global × ℕ). order e.0.items
+    (map to_ascii_lowercase c.args.word.now)) (always_returns_same _ _ _ (λ a r g called. search rules)) in
+    number_missing c.self.inside.entries.items _ c.as_slice.ensures.value c.self.invariant
+    (map to_ascii_lowercase c.args.word.now) c.in-Err.field-0 c.in-Err.ensures.bound by
     ∙ ap (λ (es : Entries). number_at es (map to_ascii_lowercase c.args.word.now)) c.self.view_is

@@ -9,7 +9,8 @@ invariant_of-self c = rw c.skip.ensures (behind_all_rising _ _ c.self.invariant)
 pub returns-in-Some : goal.returns-in-Some
 returns-in-Some c =
     let least = rw (c.deref.ensures.value, c.in-Some.is) at c.least_head.ensures in
-    sym c.self.view_is ∙ next_is c.in-Some.number c.self.inside.walks.items c.self.invariant least ∙ ap (λ (ls : List (List ℕ)). c.in-Some.number ∷ together ls) (sym c.skip.ensures)
+    sym c.self.view_is ∙ next_is c.in-Some.number c.self.inside.walks.items c.self.invariant least
+    ∙ ap (λ (ls : List (List ℕ)). c.in-Some.number ∷ together ls) (sym c.skip.ensures)
 
 pub returns-in-None : goal.returns-in-None
 returns-in-None c =

@@ -14,4 +14,5 @@ returns-then-has_place-clause-said c =
 pub returns-else-has_place-clause-said : goal.returns-else-has_place-clause-said
 returns-else-has_place-clause-said c =
     let other = c.count_again.ensures.no c.if-count_again.false in
-    said_dropped _ _ _ c.count_again.new.self c.lose.new.self c.deref.ensures other.0 other.1 (c.has_place.ensures.no c.if-has_place.false) c.lose.ensures.dropped
+    said_dropped _ _ _ c.count_again.new.self c.lose.new.self c.deref.ensures other.0 other.1
+    (c.has_place.ensures.no c.if-has_place.false) c.lose.ensures.dropped

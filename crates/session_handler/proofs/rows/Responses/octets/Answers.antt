@@ -4,4 +4,5 @@ use Rattle.session_handler.proofs.Cutting.{joined_cut}
 use Rattle.session_handler.proofs.rows.Responses.octets.Goals as goal
 
 pub returns : goal.returns
-returns c = c.deref.ensures.value ∙ sym (joined_cut c.self.inside.lengths.items c.self.inside.octets.items c.self.invariant) ∙ ap joined c.self.view_is
+returns c = c.deref.ensures.value ∙ sym (joined_cut c.self.inside.lengths.items c.self.inside.octets.items
+    c.self.invariant) ∙ ap joined c.self.view_is

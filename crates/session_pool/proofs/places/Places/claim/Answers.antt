@@ -8,7 +8,8 @@ use Rattle.session_pool.proofs.places.Places.claim.Goals as goal
 pub index_mut-requires : goal.index_mut-requires
 index_mut-requires c =
     let s = c.args.self.now in
-    let stood = last_is_free s.stands.items s.free.items c.pop.new.self.items c.in-Some.place c.in-Some.ensures.items s.frees in
+    let stood = last_is_free s.stands.items s.free.items c.pop.new.self.items c.in-Some.place c.in-Some.ensures.items
+    s.frees in
     let within = slice_get_within s.stands.items c.in-Some.place Free stood in
     omega arith
 
@@ -16,13 +17,16 @@ pub invariant_of-self : goal.invariant_of-self
 invariant_of-self c =
     let s = c.args.self.now in
     let p = c.in-Some.place in
-    let stood : slice_get s.stands.items p ≡ Some Free = last_is_free s.stands.items s.free.items c.pop.new.self.items p c.in-Some.ensures.items s.frees in
+    let stood : slice_get s.stands.items p ≡ Some Free = last_is_free s.stands.items s.free.items c.pop.new.self.items
+    p c.in-Some.ensures.items s.frees in
     record {
-      frees = leaves_back is_free s.stands.items p Free Away stood c.pop.new.self.items refl refl (λ q. ap (times q) (sym c.in-Some.ensures.items) ∙ s.frees q);
+      frees = leaves_back is_free s.stands.items p Free Away stood c.pop.new.self.items refl refl
+          (λ q. ap (times q) (sym c.in-Some.ensures.items) ∙ s.frees q);
       readies = stays is_ready s.stands.items p Free Away stood (places_in s.ready.queues) refl refl s.readies;
       updating = stays is_updates s.stands.items p Free Away stood s.updates.items refl refl s.updating;
       waits = same_of is_waiting (λ q. is_in_queue (slice_get s.book q)) s.stands.items p Free Away stood refl s.waits;
-      here = same_of is_here (λ q. has_some (slice_get s.sessions.items q)) s.stands.items p Free Away stood refl s.here;
+      here = same_of is_here (λ q. has_some (slice_get s.sessions.items q)) s.stands.items p Free Away stood refl
+          s.here;
       own = s.own;
       made = same_of is_made (λ q. nat_lt q (length s.sessions.items)) s.stands.items p Free Away stood refl s.made;
       booked = search rules;
@@ -34,5 +38,6 @@ invariant_of-self c =
 pub returns-in-Some-clause-ok : goal.returns-in-Some-clause-ok
 returns-in-Some-clause-ok c =
     let s = c.args.self.now in
-    let stood = last_is_free s.stands.items s.free.items c.pop.new.self.items c.in-Some.place c.in-Some.ensures.items s.frees in
+    let stood = last_is_free s.stands.items s.free.items c.pop.new.self.items c.in-Some.place c.in-Some.ensures.items
+    s.frees in
     record { free = inr stood; stands = refl; sessions = λ q. refl; spots = refl; ready = refl; updates = refl }

@@ -18,12 +18,14 @@ invariant_of-self c =
     let p = c.args.place in
     let stood : slice_get s.stands.items p ≡ Some Away = search rules in
     record {
-      frees = subst (λ (ps : List ℕ). (q : ℕ) → times q ps ≡ once is_free (slice_get (slice_set s.stands.items p Free) q)) (sym c.push_reserved.ensures.items)
+      frees = subst (λ (ps : List ℕ). (q : ℕ) → times q ps ≡ once is_free (slice_get (slice_set s.stands.items p Free)
+          q)) (sym c.push_reserved.ensures.items)
           (joins is_free s.stands.items p Away Free stood s.free.items refl refl s.frees);
       readies = stays is_ready s.stands.items p Away Free stood (places_in s.ready.queues) refl refl s.readies;
       updating = stays is_updates s.stands.items p Away Free stood s.updates.items refl refl s.updating;
       waits = same_of is_waiting (λ q. is_in_queue (slice_get s.book q)) s.stands.items p Away Free stood refl s.waits;
-      here = same_of is_here (λ q. has_some (slice_get s.sessions.items q)) s.stands.items p Away Free stood refl s.here;
+      here = same_of is_here (λ q. has_some (slice_get s.sessions.items q)) s.stands.items p Away Free stood refl
+          s.here;
       own = s.own;
       made = same_of is_made (λ q. nat_lt q (length s.sessions.items)) s.stands.items p Away Free stood refl s.made;
       booked = search rules;

@@ -12,6 +12,7 @@ index-requires c =
     let p : ℕ = c.args.place in
     let is_in : IsIn s.book p c.in-Some-In-Leaving-default.field-0-0 c.in-Some-In-Leaving-default.field-0-1 =
     sym c.spot.ensures ∙ c.in-Some-In-Leaving-default.is ∙ ap Some c.in-Some-In-Leaving-default.field-0-is in
-    let stood : slice_get s.stands.items p ≡ Some Waits = waits_in_book s.stands.items s.book p c.in-Some-In-Leaving-default.field-0-0 c.in-Some-In-Leaving-default.field-0-1 s.waits is_in in
+    let stood : slice_get s.stands.items p ≡ Some Waits = waits_in_book s.stands.items s.book p
+    c.in-Some-In-Leaving-default.field-0-0 c.in-Some-In-Leaving-default.field-0-1 s.waits is_in in
     let within = below_made s.stands.items p (length s.sessions.items) Waits (s.made p) stood refl in
     omega arith

@@ -30,13 +30,18 @@ invariant_of-self c =
     let wg = below_made s.stands.items p (length s.sessions.items) Away (s.made p) stood refl in
     record {
       frees = stays is_free s.stands.items p Away Ready stood s.free.items refl refl s.frees;
-      readies = joins_list is_ready s.stands.items p Away Ready stood (places_in s.ready.queues) (places_in c.line_up.new.self.queues) refl refl
-          (λ q. ap (λ (v : TurnsValue). times q (places_in v.queues)) c.line_up.ensures ∙ lined_up_times s.ready p c.class-class.result q) s.readies;
+      readies = joins_list is_ready s.stands.items p Away Ready stood (places_in s.ready.queues)
+          (places_in c.line_up.new.self.queues) refl refl
+          (λ q. ap (λ (v : TurnsValue). times q (places_in v.queues)) c.line_up.ensures ∙ lined_up_times s.ready p
+          c.class-class.result q) s.readies;
       updating = stays is_updates s.stands.items p Away Ready stood s.updates.items refl refl s.updating;
       waits = same_of is_waiting (λ q. is_in_queue (slice_get s.book q)) s.stands.items p Away Ready stood refl s.waits;
-      here = set_both (λ q a b. has_some a ≡ is_here b) s.sessions.items s.stands.items p (Some g) Ready wg ws refl s.here;
-      own = set_each (λ q o. (h : PooledSession) → o ≡ Some (Some h) → h.place ≡ q) s.sessions.items p (Some g) wg (λ h e. own_place (λ (x : PooledSession). x.place) g h e) s.own;
-      made = subst (λ (n : ℕ). (q : ℕ) → nat_lt q n ≡ is_made (slice_get (slice_set s.stands.items p Ready) q)) (sym (length_set s.sessions.items p (Some g)))
+      here = set_both (λ q a b. has_some a ≡ is_here b) s.sessions.items s.stands.items p (Some g) Ready wg ws refl
+          s.here;
+      own = set_each (λ q o. (h : PooledSession) → o ≡ Some (Some h) → h.place ≡ q) s.sessions.items p (Some g) wg
+          (λ h e. own_place (λ (x : PooledSession). x.place) g h e) s.own;
+      made = subst (λ (n : ℕ). (q : ℕ) → nat_lt q n ≡ is_made (slice_get (slice_set s.stands.items p Ready) q))
+          (sym (length_set s.sessions.items p (Some g)))
           (same_of is_made (λ q. nat_lt q (length s.sessions.items)) s.stands.items p Away Ready stood refl s.made);
       booked = search rules;
       room_free = search rules;
@@ -84,12 +89,17 @@ invariant_of-self-in-Update c =
     record {
       frees = stays is_free s.stands.items p Away Updates stood s.free.items refl refl s.frees;
       readies = stays is_ready s.stands.items p Away Updates stood (places_in s.ready.queues) refl refl s.readies;
-      updating = subst (λ (ps : List ℕ). (q : ℕ) → times q ps ≡ once is_updates (slice_get (slice_set s.stands.items p Updates) q)) (sym c.push_back_reserved.ensures.items)
+      updating = subst (λ (ps : List ℕ). (q : ℕ) → times q ps ≡ once is_updates
+          (slice_get (slice_set s.stands.items p Updates) q)) (sym c.push_back_reserved.ensures.items)
           (joins is_updates s.stands.items p Away Updates stood s.updates.items refl refl s.updating);
-      waits = same_of is_waiting (λ q. is_in_queue (slice_get s.book q)) s.stands.items p Away Updates stood refl s.waits;
-      here = set_both (λ q a b. has_some a ≡ is_here b) s.sessions.items s.stands.items p (Some g) Updates wg ws refl s.here;
-      own = set_each (λ q o. (h : PooledSession) → o ≡ Some (Some h) → h.place ≡ q) s.sessions.items p (Some g) wg (λ h e. own_place (λ (x : PooledSession). x.place) g h e) s.own;
-      made = subst (λ (n : ℕ). (q : ℕ) → nat_lt q n ≡ is_made (slice_get (slice_set s.stands.items p Updates) q)) (sym (length_set s.sessions.items p (Some g)))
+      waits = same_of is_waiting (λ q. is_in_queue (slice_get s.book q)) s.stands.items p Away Updates stood refl
+          s.waits;
+      here = set_both (λ q a b. has_some a ≡ is_here b) s.sessions.items s.stands.items p (Some g) Updates wg ws refl
+          s.here;
+      own = set_each (λ q o. (h : PooledSession) → o ≡ Some (Some h) → h.place ≡ q) s.sessions.items p (Some g) wg
+          (λ h e. own_place (λ (x : PooledSession). x.place) g h e) s.own;
+      made = subst (λ (n : ℕ). (q : ℕ) → nat_lt q n ≡ is_made (slice_get (slice_set s.stands.items p Updates) q))
+          (sym (length_set s.sessions.items p (Some g)))
           (same_of is_made (λ q. nat_lt q (length s.sessions.items)) s.stands.items p Away Updates stood refl s.made);
       booked = search rules;
       room_free = search rules;

@@ -8,6 +8,7 @@ index-requires c =
     let s = c.args.self.now in
     let p : ℕ = c.in_ok-place.place in
     let longest = c.in_ok-place.ensures.some in
-    let stood : slice_get s.stands.items p ≡ Some Waits = waits_in_book s.stands.items s.book p c.args.queue longest.turn s.waits longest.is_in in
+    let stood : slice_get s.stands.items p ≡ Some Waits = waits_in_book s.stands.items s.book p c.args.queue
+    longest.turn s.waits longest.is_in in
     let within = below_made s.stands.items p (length s.sessions.items) Waits (s.made p) stood refl in
     omega arith

@@ -15,22 +15,29 @@ invariant_of-self-2 c =
     let n : ℕ = length s.sessions.items in
     let e : p ≡ n = omega arith in
     let within : p < length s.stands.items = omega arith in
-    let stood : slice_get s.stands.items p ≡ Some New = stands_new s.stands.items p within (sym (s.made p) ∙ not_below p n (omega arith)) in
+    let stood : slice_get s.stands.items p ≡ Some New = stands_new s.stands.items p within (sym (s.made p)
+    ∙ not_below p n (omega arith)) in
     let grown : c.push.new.self.items ≡ s.sessions.items ++ None ∷ [] = c.in-Ok.ensures.items in
-    let here : (q : ℕ) → has_some (slice_get s.sessions.items q) ≡ is_here (slice_get (slice_set s.stands.items p Away) q) =
+    let here : (q : ℕ) → has_some (slice_get s.sessions.items q) ≡
+    is_here (slice_get (slice_set s.stands.items p Away) q) =
     same_of is_here (λ q. has_some (slice_get s.sessions.items q)) s.stands.items p New Away stood refl s.here in
     record {
       frees = stays is_free s.stands.items p New Away stood s.free.items refl refl s.frees;
       readies = stays is_ready s.stands.items p New Away stood (places_in s.ready.queues) refl refl s.readies;
       updating = stays is_updates s.stands.items p New Away stood s.updates.items refl refl s.updating;
       waits = same_of is_waiting (λ q. is_in_queue (slice_get s.book q)) s.stands.items p New Away stood refl s.waits;
-      here = subst (λ (gs : List (Option PooledSession)). (q : ℕ) → has_some (slice_get gs q) ≡ is_here (slice_get (slice_set s.stands.items p Away) q)) (sym grown)
+      here = subst (λ (gs : List (Option PooledSession)). (q : ℕ) → has_some (slice_get gs q) ≡
+          is_here (slice_get (slice_set s.stands.items p Away) q)) (sym grown)
           (push_each (λ q g. has_some g ≡ is_here (slice_get (slice_set s.stands.items p Away) q)) s.sessions.items None
           (sym (ap has_some (slice_get_past s.sessions.items n (omega arith))) ∙ here n) here);
-      own = subst (λ (gs : List (Option PooledSession)). (q : ℕ) (g : PooledSession) → slice_get gs q ≡ Some (Some g) → g.place ≡ q) (sym grown)
-          (push_each (λ q o. (g : PooledSession) → o ≡ Some (Some g) → g.place ≡ q) s.sessions.items None (λ g x. cc) s.own);
-      made = subst (λ (r : ℕ). (q : ℕ) → nat_lt q (length c.push.new.self.items) ≡ is_made (slice_get (slice_set s.stands.items r Away) q)) (sym e)
-          (made_next s.stands.items n (omega arith) s.made (length c.push.new.self.items) (let k = c.in-Ok.ensures.len in omega arith));
+      own = subst (λ (gs : List (Option PooledSession)). (q : ℕ) (g : PooledSession) → slice_get gs q ≡
+          Some (Some g) → g.place ≡ q) (sym grown)
+          (push_each (λ q o. (g : PooledSession) → o ≡ Some (Some g) → g.place ≡ q) s.sessions.items None (λ g x. cc)
+          s.own);
+      made = subst (λ (r : ℕ). (q : ℕ) → nat_lt q (length c.push.new.self.items) ≡
+          is_made (slice_get (slice_set s.stands.items r Away) q)) (sym e)
+          (made_next s.stands.items n (omega arith) s.made (length c.push.new.self.items)
+          (let k = c.in-Ok.ensures.len in omega arith));
       booked = search rules;
       room_free = search rules;
       room_ready = search rules;
@@ -43,13 +50,16 @@ returns-clause-ok c =
     let p = c.len-place.result in
     let n : ℕ = length s.sessions.items in
     let within : p < length s.stands.items = omega arith in
-    let stood : slice_get s.stands.items p ≡ Some New = stands_new s.stands.items p within (sym (s.made p) ∙ not_below p n (omega arith)) in
+    let stood : slice_get s.stands.items p ≡ Some New = stands_new s.stands.items p within (sym (s.made p)
+    ∙ not_below p n (omega arith)) in
     let grown : c.push.new.self.items ≡ s.sessions.items ++ None ∷ [] = c.in-Ok.ensures.items in
     record {
       free = inl stood;
       stands = refl;
-      sessions = subst (λ (gs : List (Option PooledSession)). (q : ℕ) → flat (slice_get gs q) ≡ flat (slice_get s.sessions.items q)) (sym grown)
-          (push_each (λ q o. flat o ≡ flat (slice_get s.sessions.items q)) s.sessions.items None (sym (ap flat (slice_get_past s.sessions.items n (omega arith)))) (λ q. refl));
+      sessions = subst (λ (gs : List (Option PooledSession)). (q : ℕ) → flat (slice_get gs q) ≡
+          flat (slice_get s.sessions.items q)) (sym grown)
+          (push_each (λ q o. flat o ≡ flat (slice_get s.sessions.items q)) s.sessions.items None
+          (sym (ap flat (slice_get_past s.sessions.items n (omega arith)))) (λ q. refl));
       spots = refl;
       ready = refl;
       updates = refl;

@@ -18,19 +18,27 @@ invariant_of-result c =
     let turns : c.in_ok-new-2.field-0 ≡ nobody n = c.in_ok-new-2.ensures in
     let gs : c.new-2.result.items ≡ [] = c.new-2.ensures.items in
     let no : (is : PlaceState → Bool) → is New ≡ false → (q : ℕ) → once is (slice_get c.in_ok-vec.field-0.items q) ≡ 0 =
-    λ is e q. ap (λ (ss : List PlaceState). once is (slice_get ss q)) st ∙ replicate_each (once is) 0 New refl (rw e refl) n q in
-    let alike : (f : Option PlaceState → Bool) → f None ≡ false → f (Some New) ≡ false → (q : ℕ) → f (slice_get c.in_ok-vec.field-0.items q) ≡ false =
+    λ is e q. ap (λ (ss : List PlaceState). once is (slice_get ss q)) st ∙ replicate_each (once is) 0 New refl
+    (rw e refl) n q in
+    let alike : (f : Option PlaceState → Bool) → f None ≡ false → f (Some New) ≡ false → (q : ℕ) →
+    f (slice_get c.in_ok-vec.field-0.items q) ≡ false =
     λ f d e q. ap (λ (ss : List PlaceState). f (slice_get ss q)) st ∙ replicate_each f false New d e n q in
     record {
       frees = λ q. ap (times q) c.in_ok-with_capacity.ensures.items ∙ sym (no is_free refl q);
       readies = λ q. ap (λ (v : TurnsValue). times q (places_in v.queues)) turns ∙ sym (no is_ready refl q);
       updating = λ q. ap (times q) c.in_ok-with_capacity-2.ensures.items ∙ sym (no is_updates refl q);
-      waits = λ q. ap (λ (xs : List Spot). is_in_queue (slice_get xs q)) bk ∙ replicate_each is_in_queue false SpotAway refl refl n q ∙ sym (alike is_waiting refl refl q);
-      here = λ q. ap (λ (xs : List (Option PooledSession)). has_some (slice_get xs q)) gs ∙ sym (alike is_here refl refl q);
+      waits = λ q. ap (λ (xs : List Spot). is_in_queue (slice_get xs q)) bk ∙ replicate_each is_in_queue false
+          SpotAway refl refl n q ∙ sym (alike is_waiting refl refl q);
+      here = λ q. ap (λ (xs : List (Option PooledSession)). has_some (slice_get xs q)) gs
+          ∙ sym (alike is_here refl refl q);
       own = λ q g e. let x : slice_get {X = Option PooledSession} [] q ≡ Some (Some g) = rw gs at e in cc;
-      made = λ q. not_below q (length c.new-2.result.items) (let l = ap length gs in omega arith) ∙ sym (alike is_made refl refl q);
+      made = λ q. not_below q (length c.new-2.result.items) (let l = ap length gs in omega arith)
+          ∙ sym (alike is_made refl refl q);
       booked = ap length bk ∙ length_same n SpotAway ∙ sym (length_same n New) ∙ sym (ap length st);
-      room_free = let l = (ap length st ∙ length_same n New) in let k = c.in_ok-with_capacity.ensures.capacity in omega arith;
-      room_ready = let l = (ap length st ∙ length_same n New) in let k = ap (λ (v : TurnsValue). v.room) turns in omega arith;
-      room_updates = let l = (ap length st ∙ length_same n New) in let k = c.in_ok-with_capacity-2.ensures.capacity in omega arith;
+      room_free = let l = (ap length st ∙ length_same n New) in let k = c.in_ok-with_capacity.ensures.capacity
+          in omega arith;
+      room_ready = let l = (ap length st ∙ length_same n New) in let k = ap (λ (v : TurnsValue). v.room) turns
+          in omega arith;
+      room_updates = let l = (ap length st ∙ length_same n New) in let k = c.in_ok-with_capacity-2.ensures.capacity
+          in omega arith;
     }

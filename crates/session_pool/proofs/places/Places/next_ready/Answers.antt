@@ -15,7 +15,8 @@ index_mut-requires c =
     let s = c.args.self.now in
     let p : ℕ = c.in_ok-place.place in
     let next : next_place s.ready ≡ Some p = sym c.take_next.ensures.next ∙ c.in_ok-place.was in
-    let stood : slice_get s.stands.items p ≡ Some Ready = listed_is_ready s.stands.items (places_in s.ready.queues) p (next_times s.ready p next) s.readies in
+    let stood : slice_get s.stands.items p ≡ Some Ready = listed_is_ready s.stands.items (places_in s.ready.queues) p
+    (next_times s.ready p next) s.readies in
     let within = slice_get_within s.stands.items p Ready stood in
     omega arith
 
@@ -24,7 +25,8 @@ index_mut-requires-2 c =
     let s = c.args.self.now in
     let p : ℕ = c.in_ok-place.place in
     let next : next_place s.ready ≡ Some p = sym c.take_next.ensures.next ∙ c.in_ok-place.was in
-    let stood : slice_get s.stands.items p ≡ Some Ready = listed_is_ready s.stands.items (places_in s.ready.queues) p (next_times s.ready p next) s.readies in
+    let stood : slice_get s.stands.items p ≡ Some Ready = listed_is_ready s.stands.items (places_in s.ready.queues) p
+    (next_times s.ready p next) s.readies in
     let within = below_made s.stands.items p (length s.sessions.items) Ready (s.made p) stood refl in
     omega arith
 
@@ -33,23 +35,30 @@ invariant_of-self-2 c =
     let s = c.args.self.now in
     let p : ℕ = c.in_ok-place.place in
     let next : next_place s.ready ≡ Some p = sym c.take_next.ensures.next ∙ c.in_ok-place.was in
-    let stood : slice_get s.stands.items p ≡ Some Ready = listed_is_ready s.stands.items (places_in s.ready.queues) p (next_times s.ready p next) s.readies in
+    let stood : slice_get s.stands.items p ≡ Some Ready = listed_is_ready s.stands.items (places_in s.ready.queues) p
+    (next_times s.ready p next) s.readies in
     let ws = slice_get_within s.stands.items p Ready stood in
     let wg = below_made s.stands.items p (length s.sessions.items) Ready (s.made p) stood refl in
     let gone : c.take.new.self ≡ None = c.take.ensures.after in
     record {
       frees = stays is_free s.stands.items p Ready Away stood s.free.items refl refl s.frees;
-      readies = leaves_list is_ready s.stands.items p Ready Away stood (places_in s.ready.queues) (places_in c.take_next.new.self.queues) refl refl
-          (λ q. ap (λ (v : TurnsValue). times q (places_in v.queues) + cond (nat_eq q p) 1 0) c.take_next.ensures.taken ∙ taken_times s.ready p next q) s.readies;
+      readies = leaves_list is_ready s.stands.items p Ready Away stood (places_in s.ready.queues)
+          (places_in c.take_next.new.self.queues) refl refl
+          (λ q. ap (λ (v : TurnsValue). times q (places_in v.queues) + cond (nat_eq q p) 1 0)
+          c.take_next.ensures.taken ∙ taken_times s.ready p next q) s.readies;
       updating = stays is_updates s.stands.items p Ready Away stood s.updates.items refl refl s.updating;
       waits = same_of is_waiting (λ q. is_in_queue (slice_get s.book q)) s.stands.items p Ready Away stood refl s.waits;
-      here = set_both (λ q a b. has_some a ≡ is_here b) s.sessions.items s.stands.items p c.take.new.self Away wg ws (ap (λ (x : Option PooledSession). has_some (Some x)) gone) s.here;
-      own = set_each (λ q o. (h : PooledSession) → o ≡ Some (Some h) → h.place ≡ q) s.sessions.items p c.take.new.self wg (λ h e. cc) s.own;
-      made = subst (λ (n : ℕ). (q : ℕ) → nat_lt q n ≡ is_made (slice_get (slice_set s.stands.items p Away) q)) (sym (length_set s.sessions.items p c.take.new.self))
+      here = set_both (λ q a b. has_some a ≡ is_here b) s.sessions.items s.stands.items p c.take.new.self Away wg ws
+          (ap (λ (x : Option PooledSession). has_some (Some x)) gone) s.here;
+      own = set_each (λ q o. (h : PooledSession) → o ≡ Some (Some h) → h.place ≡ q) s.sessions.items p c.take.new.self
+          wg (λ h e. cc) s.own;
+      made = subst (λ (n : ℕ). (q : ℕ) → nat_lt q n ≡ is_made (slice_get (slice_set s.stands.items p Away) q))
+          (sym (length_set s.sessions.items p c.take.new.self))
           (same_of is_made (λ q. nat_lt q (length s.sessions.items)) s.stands.items p Ready Away stood refl s.made);
       booked = search rules;
       room_free = search rules;
-      room_ready = let r = s.room_ready in let k = room_taken s.ready in let l = ap (λ (v : TurnsValue). v.room) c.take_next.ensures.taken in let n = length_set s.stands.items p Away in omega arith;
+      room_ready = let r = s.room_ready in let k = room_taken s.ready in let l = ap (λ (v : TurnsValue). v.room)
+          c.take_next.ensures.taken in let n = length_set s.stands.items p Away in omega arith;
       room_updates = search rules;
     }
 
@@ -58,20 +67,30 @@ returns-clause-some c =
     let s = c.args.self.now in
     let p : ℕ = c.in_ok-place.place in
     let next : next_place s.ready ≡ Some p = sym c.take_next.ensures.next ∙ c.in_ok-place.was in
-    let stood : slice_get s.stands.items p ≡ Some Ready = listed_is_ready s.stands.items (places_in s.ready.queues) p (next_times s.ready p next) s.readies in
+    let stood : slice_get s.stands.items p ≡ Some Ready = listed_is_ready s.stands.items (places_in s.ready.queues) p
+    (next_times s.ready p next) s.readies in
     let there = session_there s.stands.items s.sessions.items p Ready s.here stood refl in
-    let is : c.take.result ≡ Some there.0 = c.take.ensures.value ∙ c.index_mut-2.ensures.value ∙ get_or_from_slice_get s.sessions.items p (Some there.0) c.index_mut-2.result.now there.1 in
+    let is : c.take.result ≡ Some there.0 = c.take.ensures.value ∙ c.index_mut-2.ensures.value
+    ∙ get_or_from_slice_get s.sessions.items p (Some there.0) c.index_mut-2.result.now there.1 in
     let gone : c.take.new.self ≡ None = c.take.ensures.after in
-    rw is (record { place = p; home = record { here = there.1; own = s.own p there.0 there.1 }; next = next; after = taken_at (tabled s) p c.take.new.self c.take_next.new.self gone c.take_next.ensures.taken })
+    rw is (record {
+      place = p;
+      home = record { here = there.1; own = s.own p there.0 there.1 };
+      next = next;
+      after =
+          taken_at (tabled s) p c.take.new.self c.take_next.new.self gone c.take_next.ensures.taken;
+    })
 
 pub returns-clause-none : goal.returns-clause-none
 returns-clause-none c =
     let s = c.args.self.now in
     let p : ℕ = c.in_ok-place.place in
     let next : next_place s.ready ≡ Some p = sym c.take_next.ensures.next ∙ c.in_ok-place.was in
-    let stood : slice_get s.stands.items p ≡ Some Ready = listed_is_ready s.stands.items (places_in s.ready.queues) p (next_times s.ready p next) s.readies in
+    let stood : slice_get s.stands.items p ≡ Some Ready = listed_is_ready s.stands.items (places_in s.ready.queues) p
+    (next_times s.ready p next) s.readies in
     let there = session_there s.stands.items s.sessions.items p Ready s.here stood refl in
-    let is : c.take.result ≡ Some there.0 = c.take.ensures.value ∙ c.index_mut-2.ensures.value ∙ get_or_from_slice_get s.sessions.items p (Some there.0) c.index_mut-2.result.now there.1 in
+    let is : c.take.result ≡ Some there.0 = c.take.ensures.value ∙ c.index_mut-2.ensures.value
+    ∙ get_or_from_slice_get s.sessions.items p (Some there.0) c.index_mut-2.result.now there.1 in
     rw is tt
 
 pub returns-clause-left : goal.returns-clause-left
@@ -79,7 +98,9 @@ returns-clause-left c =
     let s = c.args.self.now in
     let p : ℕ = c.in_ok-place.place in
     let next : next_place s.ready ≡ Some p = sym c.take_next.ensures.next ∙ c.in_ok-place.was in
-    let stood : slice_get s.stands.items p ≡ Some Ready = listed_is_ready s.stands.items (places_in s.ready.queues) p (next_times s.ready p next) s.readies in
+    let stood : slice_get s.stands.items p ≡ Some Ready = listed_is_ready s.stands.items (places_in s.ready.queues) p
+    (next_times s.ready p next) s.readies in
     let there = session_there s.stands.items s.sessions.items p Ready s.here stood refl in
-    let is : c.take.result ≡ Some there.0 = c.take.ensures.value ∙ c.index_mut-2.ensures.value ∙ get_or_from_slice_get s.sessions.items p (Some there.0) c.index_mut-2.result.now there.1 in
+    let is : c.take.result ≡ Some there.0 = c.take.ensures.value ∙ c.index_mut-2.ensures.value
+    ∙ get_or_from_slice_get s.sessions.items p (Some there.0) c.index_mut-2.result.now there.1 in
     rw is tt

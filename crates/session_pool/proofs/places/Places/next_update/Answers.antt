@@ -13,7 +13,8 @@ index_mut-requires c =
     let p : ℕ = c.in_ok-place.place in
     let left : List ℕ = c.pop_front.new.self.items in
     let out : s.updates.items ≡ p ∷ left = c.in_ok-place.ensures.items in
-    let stood : slice_get s.stands.items p ≡ Some Updates = first_is_updates s.stands.items s.updates.items left p out s.updating in
+    let stood : slice_get s.stands.items p ≡ Some Updates = first_is_updates s.stands.items s.updates.items left p out
+    s.updating in
     let within = slice_get_within s.stands.items p Updates stood in
     omega arith
 
@@ -23,7 +24,8 @@ index_mut-requires-2 c =
     let p : ℕ = c.in_ok-place.place in
     let left : List ℕ = c.pop_front.new.self.items in
     let out : s.updates.items ≡ p ∷ left = c.in_ok-place.ensures.items in
-    let stood : slice_get s.stands.items p ≡ Some Updates = first_is_updates s.stands.items s.updates.items left p out s.updating in
+    let stood : slice_get s.stands.items p ≡ Some Updates = first_is_updates s.stands.items s.updates.items left p out
+    s.updating in
     let within = below_made s.stands.items p (length s.sessions.items) Updates (s.made p) stood refl in
     omega arith
 
@@ -33,18 +35,24 @@ invariant_of-self-2 c =
     let p : ℕ = c.in_ok-place.place in
     let left : List ℕ = c.pop_front.new.self.items in
     let out : s.updates.items ≡ p ∷ left = c.in_ok-place.ensures.items in
-    let stood : slice_get s.stands.items p ≡ Some Updates = first_is_updates s.stands.items s.updates.items left p out s.updating in
+    let stood : slice_get s.stands.items p ≡ Some Updates = first_is_updates s.stands.items s.updates.items left p out
+    s.updating in
     let ws = slice_get_within s.stands.items p Updates stood in
     let wg = below_made s.stands.items p (length s.sessions.items) Updates (s.made p) stood refl in
     let gone : c.take.new.self ≡ None = c.take.ensures.after in
     record {
       frees = stays is_free s.stands.items p Updates Away stood s.free.items refl refl s.frees;
       readies = stays is_ready s.stands.items p Updates Away stood (places_in s.ready.queues) refl refl s.readies;
-      updating = leaves is_updates s.stands.items p Updates Away stood left refl refl (λ q. ap (times q) (sym out) ∙ s.updating q);
-      waits = same_of is_waiting (λ q. is_in_queue (slice_get s.book q)) s.stands.items p Updates Away stood refl s.waits;
-      here = set_both (λ q a b. has_some a ≡ is_here b) s.sessions.items s.stands.items p c.take.new.self Away wg ws (ap (λ (x : Option PooledSession). has_some (Some x)) gone) s.here;
-      own = set_each (λ q o. (h : PooledSession) → o ≡ Some (Some h) → h.place ≡ q) s.sessions.items p c.take.new.self wg (λ h e. cc) s.own;
-      made = subst (λ (n : ℕ). (q : ℕ) → nat_lt q n ≡ is_made (slice_get (slice_set s.stands.items p Away) q)) (sym (length_set s.sessions.items p c.take.new.self))
+      updating = leaves is_updates s.stands.items p Updates Away stood left refl refl (λ q. ap (times q) (sym out)
+          ∙ s.updating q);
+      waits = same_of is_waiting (λ q. is_in_queue (slice_get s.book q)) s.stands.items p Updates Away stood refl
+          s.waits;
+      here = set_both (λ q a b. has_some a ≡ is_here b) s.sessions.items s.stands.items p c.take.new.self Away wg ws
+          (ap (λ (x : Option PooledSession). has_some (Some x)) gone) s.here;
+      own = set_each (λ q o. (h : PooledSession) → o ≡ Some (Some h) → h.place ≡ q) s.sessions.items p c.take.new.self
+          wg (λ h e. cc) s.own;
+      made = subst (λ (n : ℕ). (q : ℕ) → nat_lt q n ≡ is_made (slice_get (slice_set s.stands.items p Away) q))
+          (sym (length_set s.sessions.items p c.take.new.self))
           (same_of is_made (λ q. nat_lt q (length s.sessions.items)) s.stands.items p Updates Away stood refl s.made);
       booked = search rules;
       room_free = search rules;
@@ -58,11 +66,19 @@ returns-clause-some c =
     let p : ℕ = c.in_ok-place.place in
     let left : List ℕ = c.pop_front.new.self.items in
     let out : s.updates.items ≡ p ∷ left = c.in_ok-place.ensures.items in
-    let stood : slice_get s.stands.items p ≡ Some Updates = first_is_updates s.stands.items s.updates.items left p out s.updating in
+    let stood : slice_get s.stands.items p ≡ Some Updates = first_is_updates s.stands.items s.updates.items left p out
+    s.updating in
     let there = session_there s.stands.items s.sessions.items p Updates s.here stood refl in
-    let is : c.take.result ≡ Some there.0 = c.take.ensures.value ∙ c.index_mut-2.ensures.value ∙ get_or_from_slice_get s.sessions.items p (Some there.0) c.index_mut-2.result.now there.1 in
+    let is : c.take.result ≡ Some there.0 = c.take.ensures.value ∙ c.index_mut-2.ensures.value
+    ∙ get_or_from_slice_get s.sessions.items p (Some there.0) c.index_mut-2.result.now there.1 in
     let gone : c.take.new.self ≡ None = c.take.ensures.after in
-    rw is (record { place = p; home = record { here = there.1; own = s.own p there.0 there.1 }; first = out; after = rw gone refl })
+    rw is (record {
+      place = p;
+      home = record { here = there.1; own = s.own p there.0 there.1 };
+      first = out;
+      after =
+          rw gone refl;
+    })
 
 pub returns-clause-none : goal.returns-clause-none
 returns-clause-none c =
@@ -70,9 +86,11 @@ returns-clause-none c =
     let p : ℕ = c.in_ok-place.place in
     let left : List ℕ = c.pop_front.new.self.items in
     let out : s.updates.items ≡ p ∷ left = c.in_ok-place.ensures.items in
-    let stood : slice_get s.stands.items p ≡ Some Updates = first_is_updates s.stands.items s.updates.items left p out s.updating in
+    let stood : slice_get s.stands.items p ≡ Some Updates = first_is_updates s.stands.items s.updates.items left p out
+    s.updating in
     let there = session_there s.stands.items s.sessions.items p Updates s.here stood refl in
-    let is : c.take.result ≡ Some there.0 = c.take.ensures.value ∙ c.index_mut-2.ensures.value ∙ get_or_from_slice_get s.sessions.items p (Some there.0) c.index_mut-2.result.now there.1 in
+    let is : c.take.result ≡ Some there.0 = c.take.ensures.value ∙ c.index_mut-2.ensures.value
+    ∙ get_or_from_slice_get s.sessions.items p (Some there.0) c.index_mut-2.result.now there.1 in
     rw is tt
 
 pub returns-clause-left : goal.returns-clause-left
@@ -81,7 +99,9 @@ returns-clause-left c =
     let p : ℕ = c.in_ok-place.place in
     let left : List ℕ = c.pop_front.new.self.items in
     let out : s.updates.items ≡ p ∷ left = c.in_ok-place.ensures.items in
-    let stood : slice_get s.stands.items p ≡ Some Updates = first_is_updates s.stands.items s.updates.items left p out s.updating in
+    let stood : slice_get s.stands.items p ≡ Some Updates = first_is_updates s.stands.items s.updates.items left p out
+    s.updating in
     let there = session_there s.stands.items s.sessions.items p Updates s.here stood refl in
-    let is : c.take.result ≡ Some there.0 = c.take.ensures.value ∙ c.index_mut-2.ensures.value ∙ get_or_from_slice_get s.sessions.items p (Some there.0) c.index_mut-2.result.now there.1 in
+    let is : c.take.result ≡ Some there.0 = c.take.ensures.value ∙ c.index_mut-2.ensures.value
+    ∙ get_or_from_slice_get s.sessions.items p (Some there.0) c.index_mut-2.result.now there.1 in
     rw is tt

@@ -24,19 +24,27 @@ invariant_of-self c =
     let p : ℕ = c.args.place in
     let turn = c.waits_its_turn.ensures.0 c.if-not-waits_its_turn.false in
     let there = some_there (slice_get s.sessions.items p) (s.here p ∙ turn_here (slice_get s.stands.items p) turn) in
-    let slot : c.index_mut.result.now ≡ Some there.0 = c.index_mut.ensures.value ∙ get_or_from_slice_get s.sessions.items p (Some there.0) c.index_mut.result.now there.1 in
-    let r : NotesOne there.0 c.args.notice c.notified.new.pooled c.notified.result = subst (λ (o : Option PooledSession). NotesAt o c.args.notice c.notified.new.pooled c.notified.result) slot c.notified.ensures in
+    let slot : c.index_mut.result.now ≡ Some there.0 = c.index_mut.ensures.value
+    ∙ get_or_from_slice_get s.sessions.items p (Some there.0) c.index_mut.result.now there.1 in
+    let r : NotesOne there.0 c.args.notice c.notified.new.pooled c.notified.result =
+    subst (λ (o : Option PooledSession). NotesAt o c.args.notice c.notified.new.pooled c.notified.result) slot
+    c.notified.ensures in
     let within = slice_get_within s.sessions.items p (Some there.0) there.1 in
     record {
       frees = s.frees;
       readies = s.readies;
       updating = s.updating;
       waits = s.waits;
-      here = set_each (λ q o. has_some o ≡ is_here (slice_get s.stands.items q)) s.sessions.items p c.notified.new.pooled within
-          (ap (λ (x : Option PooledSession). has_some (Some x)) r.after_is ∙ sym (turn_here (slice_get s.stands.items p) turn)) s.here;
-      own = set_each (λ q o. (h : PooledSession) → o ≡ Some (Some h) → h.place ≡ q) s.sessions.items p c.notified.new.pooled within
-          (λ h e. own_after (λ (x : PooledSession). x.place) c.notified.new.pooled r.pooled h p r.after_is (r.same.place ∙ s.own p there.0 there.1) e) s.own;
-      made = subst (λ (n : ℕ). (q : ℕ) → nat_lt q n ≡ is_made (slice_get s.stands.items q)) (sym (length_set s.sessions.items p c.notified.new.pooled)) s.made;
+      here = set_each (λ q o. has_some o ≡ is_here (slice_get s.stands.items q)) s.sessions.items p
+          c.notified.new.pooled within
+          (ap (λ (x : Option PooledSession). has_some (Some x)) r.after_is
+          ∙ sym (turn_here (slice_get s.stands.items p) turn)) s.here;
+      own = set_each (λ q o. (h : PooledSession) → o ≡ Some (Some h) → h.place ≡ q) s.sessions.items p
+          c.notified.new.pooled within
+          (λ h e. own_after (λ (x : PooledSession). x.place) c.notified.new.pooled r.pooled h p r.after_is
+          (r.same.place ∙ s.own p there.0 there.1) e) s.own;
+      made = subst (λ (n : ℕ). (q : ℕ) → nat_lt q n ≡ is_made (slice_get s.stands.items q))
+          (sym (length_set s.sessions.items p c.notified.new.pooled)) s.made;
       booked = s.booked;
       room_free = s.room_free;
       room_ready = s.room_ready;
@@ -49,8 +57,11 @@ returns-clause-some c =
     let p : ℕ = c.args.place in
     let turn = c.waits_its_turn.ensures.0 c.if-not-waits_its_turn.false in
     let there = some_there (slice_get s.sessions.items p) (s.here p ∙ turn_here (slice_get s.stands.items p) turn) in
-    let slot : c.index_mut.result.now ≡ Some there.0 = c.index_mut.ensures.value ∙ get_or_from_slice_get s.sessions.items p (Some there.0) c.index_mut.result.now there.1 in
-    let r : NotesOne there.0 c.args.notice c.notified.new.pooled c.notified.result = subst (λ (o : Option PooledSession). NotesAt o c.args.notice c.notified.new.pooled c.notified.result) slot c.notified.ensures in
+    let slot : c.index_mut.result.now ≡ Some there.0 = c.index_mut.ensures.value
+    ∙ get_or_from_slice_get s.sessions.items p (Some there.0) c.index_mut.result.now there.1 in
+    let r : NotesOne there.0 c.args.notice c.notified.new.pooled c.notified.result =
+    subst (λ (o : Option PooledSession). NotesAt o c.args.notice c.notified.new.pooled c.notified.result) slot
+    c.notified.ensures in
     rw r.told_is (record {
       before = there.0;
       after = r.pooled;
@@ -67,8 +78,11 @@ returns-clause-none c =
     let p : ℕ = c.args.place in
     let turn = c.waits_its_turn.ensures.0 c.if-not-waits_its_turn.false in
     let there = some_there (slice_get s.sessions.items p) (s.here p ∙ turn_here (slice_get s.stands.items p) turn) in
-    let slot : c.index_mut.result.now ≡ Some there.0 = c.index_mut.ensures.value ∙ get_or_from_slice_get s.sessions.items p (Some there.0) c.index_mut.result.now there.1 in
-    let r : NotesOne there.0 c.args.notice c.notified.new.pooled c.notified.result = subst (λ (o : Option PooledSession). NotesAt o c.args.notice c.notified.new.pooled c.notified.result) slot c.notified.ensures in
+    let slot : c.index_mut.result.now ≡ Some there.0 = c.index_mut.ensures.value
+    ∙ get_or_from_slice_get s.sessions.items p (Some there.0) c.index_mut.result.now there.1 in
+    let r : NotesOne there.0 c.args.notice c.notified.new.pooled c.notified.result =
+    subst (λ (o : Option PooledSession). NotesAt o c.args.notice c.notified.new.pooled c.notified.result) slot
+    c.notified.ensures in
     rw r.told_is tt
 
 pub returns-clause-left : goal.returns-clause-left
@@ -77,6 +91,9 @@ returns-clause-left c =
     let p : ℕ = c.args.place in
     let turn = c.waits_its_turn.ensures.0 c.if-not-waits_its_turn.false in
     let there = some_there (slice_get s.sessions.items p) (s.here p ∙ turn_here (slice_get s.stands.items p) turn) in
-    let slot : c.index_mut.result.now ≡ Some there.0 = c.index_mut.ensures.value ∙ get_or_from_slice_get s.sessions.items p (Some there.0) c.index_mut.result.now there.1 in
-    let r : NotesOne there.0 c.args.notice c.notified.new.pooled c.notified.result = subst (λ (o : Option PooledSession). NotesAt o c.args.notice c.notified.new.pooled c.notified.result) slot c.notified.ensures in
+    let slot : c.index_mut.result.now ≡ Some there.0 = c.index_mut.ensures.value
+    ∙ get_or_from_slice_get s.sessions.items p (Some there.0) c.index_mut.result.now there.1 in
+    let r : NotesOne there.0 c.args.notice c.notified.new.pooled c.notified.result =
+    subst (λ (o : Option PooledSession). NotesAt o c.args.notice c.notified.new.pooled c.notified.result) slot
+    c.notified.ensures in
     rw r.told_is tt

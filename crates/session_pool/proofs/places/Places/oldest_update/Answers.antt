@@ -8,6 +8,7 @@ index-requires c =
     let s = c.args.self.now in
     let p : ℕ = c.in_ok-place.place in
     let first = c.in_ok-place.ensures.some in
-    let stood : slice_get s.stands.items p ≡ Some Updates = first_is_updates s.stands.items s.updates.items first.0 p first.1 s.updating in
+    let stood : slice_get s.stands.items p ≡ Some Updates = first_is_updates s.stands.items s.updates.items first.0 p
+    first.1 s.updating in
     let within = below_made s.stands.items p (length s.sessions.items) Updates (s.made p) stood refl in
     omega arith

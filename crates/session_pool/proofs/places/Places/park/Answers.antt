@@ -16,19 +16,27 @@ invariant_of-self c =
     let p = g.place in
     let stood : slice_get s.stands.items p ≡ Some Away = search rules in
     let ws = slice_get_within s.stands.items p Away stood in
-    let away : slice_get s.book p ≡ Some SpotAway = away_in_book s.book p (let b = s.booked in omega arith) (s.waits p ∙ ap is_waiting stood) in
+    let away : slice_get s.book p ≡ Some SpotAway = away_in_book s.book p (let b = s.booked in omega arith) (s.waits p
+    ∙ ap is_waiting stood) in
     let put = c.in-Ok.ensures.ok away in
     record {
       frees = stays is_free s.stands.items p Away Waits stood s.free.items refl refl s.frees;
       readies = stays is_ready s.stands.items p Away Waits stood (places_in s.ready.queues) refl refl s.readies;
       updating = stays is_updates s.stands.items p Away Waits stood s.updates.items refl refl s.updating;
-      waits = subst (λ (xs : List Spot). (q : ℕ) → is_in_queue (slice_get xs q) ≡ is_waiting (slice_get (slice_set s.stands.items p Waits) q)) (sym put.put)
-          (set_both (λ q a b. is_in_queue a ≡ is_waiting b) s.book s.stands.items p (In c.args.queue put.turn) Waits (slice_get_within s.book p SpotAway away) ws refl s.waits);
-      here = set_both (λ q a b. has_some a ≡ is_here b) s.sessions.items s.stands.items p (Some g) Waits (below_made s.stands.items p (length s.sessions.items) Away (s.made p) stood refl) ws refl s.here;
-      own = set_each (λ q o. (h : PooledSession) → o ≡ Some (Some h) → h.place ≡ q) s.sessions.items p (Some g) (below_made s.stands.items p (length s.sessions.items) Away (s.made p) stood refl) (λ h e. own_place (λ (x : PooledSession). x.place) g h e) s.own;
-      made = subst (λ (n : ℕ). (q : ℕ) → nat_lt q n ≡ is_made (slice_get (slice_set s.stands.items p Waits) q)) (sym (length_set s.sessions.items p (Some g)))
+      waits = subst (λ (xs : List Spot). (q : ℕ) → is_in_queue (slice_get xs q) ≡
+          is_waiting (slice_get (slice_set s.stands.items p Waits) q)) (sym put.put)
+          (set_both (λ q a b. is_in_queue a ≡ is_waiting b) s.book s.stands.items p (In c.args.queue put.turn) Waits
+          (slice_get_within s.book p SpotAway away) ws refl s.waits);
+      here = set_both (λ q a b. has_some a ≡ is_here b) s.sessions.items s.stands.items p (Some g) Waits
+          (below_made s.stands.items p (length s.sessions.items) Away (s.made p) stood refl) ws refl s.here;
+      own = set_each (λ q o. (h : PooledSession) → o ≡ Some (Some h) → h.place ≡ q) s.sessions.items p (Some g)
+          (below_made s.stands.items p (length s.sessions.items) Away (s.made p) stood refl)
+          (λ h e. own_place (λ (x : PooledSession). x.place) g h e) s.own;
+      made = subst (λ (n : ℕ). (q : ℕ) → nat_lt q n ≡ is_made (slice_get (slice_set s.stands.items p Waits) q))
+          (sym (length_set s.sessions.items p (Some g)))
           (same_of is_made (λ q. nat_lt q (length s.sessions.items)) s.stands.items p Away Waits stood refl s.made);
-      booked = ap length put.put ∙ length_set s.book p (In c.args.queue put.turn) ∙ s.booked ∙ sym (length_set s.stands.items p Waits);
+      booked = ap length put.put ∙ length_set s.book p (In c.args.queue put.turn) ∙ s.booked
+          ∙ sym (length_set s.stands.items p Waits);
       room_free = search rules;
       room_ready = search rules;
       room_updates = search rules;
@@ -40,5 +48,6 @@ returns-in-Ok-clause-ok c =
     let p = c.args.pooled.place in
     let stood : slice_get s.stands.items p ≡ Some Away = search rules in
     let ws = slice_get_within s.stands.items p Away stood in
-    let away : slice_get s.book p ≡ Some SpotAway = away_in_book s.book p (let b = s.booked in omega arith) (s.waits p ∙ ap is_waiting stood) in
+    let away : slice_get s.book p ≡ Some SpotAway = away_in_book s.book p (let b = s.booked in omega arith) (s.waits p
+    ∙ ap is_waiting stood) in
     record { away = stood; put = c.in-Ok.ensures.ok away; after = refl }

@@ -11,7 +11,8 @@ loop-count-init g c = record {
 pub loop-count-preserved : goal.loop-count-preserved
 loop-count-preserved g c = record {
   same = same_then _ _ _ c.loop-count.invariant.same c.answer_next.ensures.same;
-  answers = answers_more _ _ _ _ _ _ _ _ _ c.loop-count.invariant.answers (on_true c.answer_next.result c.if-not-answer_next.false c.answer_next.ensures.answered);
+  answers = answers_more _ _ _ _ _ _ _ _ _ c.loop-count.invariant.answers
+      (on_true c.answer_next.result c.if-not-answer_next.false c.answer_next.ensures.answered);
 }
 
 pub returns-then-not-answer_next-clause-answers : goal.returns-then-not-answer_next-clause-answers

@@ -6,5 +6,6 @@ use Rattle.session_pool.proofs.pool.SessionPool.answer_some.Given as goal
 abbrev pub invariant-loop-count : goal.invariant-loop-count
 invariant-loop-count g l = record {
   same : IsSame l.fn.pooled l.pooled;
-  answers : AnswersSome g.D.Directory.allows (config_view l.config) (talk l.fn.pooled) (talk l.pooled) l.fn.directory l.directory l._count;
+  answers : AnswersSome g.D.Directory.allows (config_view l.config) (talk l.fn.pooled) (talk l.pooled) l.fn.directory
+      l.directory l._count;
 }

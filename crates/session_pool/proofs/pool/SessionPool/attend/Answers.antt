@@ -12,11 +12,14 @@ loop-sitting-init g c = record {
 
 pub loop-sitting-preserved : goal.loop-sitting-preserved
 loop-sitting-preserved g c = record {
-  same = same_then _ _ _ (same_then _ _ _ c.loop-sitting.invariant.same c.hear_on.ensures.same) c.sit_once-then-in-Octets.ensures.same;
-  sittings = one_more_sitting g.D.Directory.allows (config_view c.args.self.now.config) c.args.pooled.now c.loop-sitting.pooled c.hear_on.new.pooled
+  same = same_then _ _ _ (same_then _ _ _ c.loop-sitting.invariant.same c.hear_on.ensures.same)
+      c.sit_once-then-in-Octets.ensures.same;
+  sittings = one_more_sitting g.D.Directory.allows (config_view c.args.self.now.config) c.args.pooled.now
+      c.loop-sitting.pooled c.hear_on.new.pooled
       c.args.directory.now c.loop-sitting.directory c.loop-sitting.then c.hear_on.new.buffer c.loop-sitting._sitting
       c.loop-sitting.invariant.sittings c.loop-sitting.invariant.becomes c.in-Listens.is
       c.sit_once-then-in-Octets.new.pooled c.sit_once-then-in-Octets.new.directory
-      c.loop-sitting.invariant.same c.hear_on.ensures.same c.in-Octets.ensures.heard c.sit_once-then-in-Octets.ensures.sitting;
+      c.loop-sitting.invariant.same c.hear_on.ensures.same c.in-Octets.ensures.heard
+      c.sit_once-then-in-Octets.ensures.sitting;
   becomes = c.sit_once-then-in-Octets.ensures.becomes;
 }

@@ -8,7 +8,8 @@ use Rattle.session_pool.proofs.pool.SessionPool.attend.Given as goal
 abbrev pub invariant-loop-sitting : goal.invariant-loop-sitting
 invariant-loop-sitting g l = record {
   same : IsSame l.fn.pooled l.pooled;
-  sittings : InARowUpTo g.D.Directory.allows (config_of (config_view l.self.config) l.fn.pooled.number) (talk l.fn.pooled) (talk l.pooled) l.fn.directory l.directory
+  sittings : InARowUpTo g.D.Directory.allows (config_of (config_view l.self.config) l.fn.pooled.number)
+      (talk l.fn.pooled) (talk l.pooled) l.fn.directory l.directory
       l._sitting;
   becomes : Becomes (talk l.pooled) l.then;
 }

@@ -8,7 +8,8 @@ use Rattle.session_turns.proofs.book.Book.put.Goals as goal
 
 pub invariant_of-self : goal.invariant_of-self
 invariant_of-self c =
-    all_same c.self.inside.spots.items (place_at c.self.inside.queues) (place_at c.insert.new.self) c.self.inside.turn c.self.invariant (search rules)
+    all_same c.self.inside.spots.items (place_at c.self.inside.queues) (place_at c.insert.new.self) c.self.inside.turn
+    c.self.invariant (search rules)
 
 pub index_mut-requires : goal.index_mut-requires
 index_mut-requires c =
@@ -18,9 +19,11 @@ index_mut-requires c =
 
 pub invariant_of-self-in-Away-1 : goal.invariant_of-self-in-Away-1
 invariant_of-self-in-Away-1 c =
-    all_put c.self.inside.spots.items (place_at c.self.inside.queues) (place_at c.insert.new.self) c.self.inside.turn c.args.place c.args.queue
+    all_put c.self.inside.spots.items (place_at c.self.inside.queues) (place_at c.insert.new.self) c.self.inside.turn
+    c.args.place c.args.queue
     (cc) c.self.invariant (c.in_ok-insert.ensures.ok)
 
 pub returns-in_ok-insert-clause-ok : goal.returns-in_ok-insert-clause-ok
 returns-in_ok-insert-clause-ok c =
-    rw (← c.self.view_is) (has_put c.self.inside.spots.items (place_at c.self.inside.queues) c.self.inside.turn c.args.place c.args.queue c.self.invariant)
+    rw (← c.self.view_is) (has_put c.self.inside.spots.items (place_at c.self.inside.queues) c.self.inside.turn
+    c.args.place c.args.queue c.self.invariant)

@@ -7,7 +7,8 @@ use Rattle.session_turns.proofs.turns.Turns.take_next.Goals.{then-self-ge-PASSED
 
 pub invariant_of-self : goal.invariant_of-self
 invariant_of-self c =
-    kept_none c.self.inside.queues c.pop.new.self c.if-self-ge-PASSED.class c.self.inside.passed c.self.inside.waiting c.self.inside.room
+    kept_none c.self.inside.queues c.pop.new.self c.if-self-ge-PASSED.class c.self.inside.passed c.self.inside.waiting
+    c.self.inside.room
     c.self.invariant (sym c.pop.ensures.first ∙ c.in_err-waiting.was) c.pop.ensures.rest c.pop.ensures.room
 
 pub returns-in_err-waiting-clause-none : goal.returns-in_err-waiting-clause-none
@@ -18,7 +19,8 @@ returns-in_err-waiting-clause-none c =
       | then-self-ge-PASSED w ↦ chosen_oldest _ _ _ _ _ w.if-self-ge-PASSED.true w.class-is c.oldest-oldest.ensures
       | else-self-ge-PASSED w ↦ chosen_least _ _ _ _ _ w.if-self-ge-PASSED.false w.class-is w.least-class.ensures
     ] in
-    rw c.from_residual.ensures (rw (← c.self.view_is) (nobody_waits q c.self.inside.passed c.if-self-ge-PASSED.class class (sym c.pop.ensures.first ∙ c.in_err-waiting.was)))
+    rw c.from_residual.ensures (rw (← c.self.view_is) (nobody_waits q c.self.inside.passed c.if-self-ge-PASSED.class
+    class (sym c.pop.ensures.first ∙ c.in_err-waiting.was)))
 
 pub invariant_of-self-2 : goal.invariant_of-self-2
 invariant_of-self-2 c =
@@ -26,9 +28,11 @@ invariant_of-self-2 c =
     elim c.if-is_class.branch [
       | then-is_class w ↦ omega arith
       | else-is_class w ↦ elim c.if-self-ge-PASSED.branch [
-        | then-self-ge-PASSED u ↦ let k = same_class c.if-self-ge-PASSED.class c.oldest-oldest.result u.class-is in let e : false ≡ is_class c.if-self-ge-PASSED.class c.oldest-oldest.result = w.if-is_class.ensures in cc
+        | then-self-ge-PASSED u ↦ let k = same_class c.if-self-ge-PASSED.class c.oldest-oldest.result u.class-is
+            in let e : false ≡ is_class c.if-self-ge-PASSED.class c.oldest-oldest.result = w.if-is_class.ensures in cc
         | else-self-ge-PASSED u ↦ omega arith
       ]
     ] in
-    kept_some c.self.inside.queues c.pop.new.self c.if-self-ge-PASSED.class c.in_ok-waiting.waiting c.self.inside.passed c.if-is_class.self c.self.inside.waiting c.self.inside.room
+    kept_some c.self.inside.queues c.pop.new.self c.if-self-ge-PASSED.class c.in_ok-waiting.waiting
+    c.self.inside.passed c.if-is_class.self c.self.inside.waiting c.self.inside.room
     c.self.invariant (sym c.pop.ensures.first ∙ c.in_ok-waiting.was) c.pop.ensures.rest c.pop.ensures.room few

@@ -6,14 +6,16 @@ use Rattle.shared_map.proofs.Dense.{way_left, way_right, way_ends, end_after}
 use Rattle.shared_map.proofs.tree.Tree+u64+unit.has_number.Goals as goal
 
 pub is_full-requires : goal.is_full-requires
-is_full-requires c = end_after c.args.number c.loop-at.from c.loop-at.upto c.loop-at.invariant.least c.loop-at.invariant.end
+is_full-requires c = end_after c.args.number c.loop-at.from c.loop-at.upto c.loop-at.invariant.least
+    c.loop-at.invariant.end
 
 pub returns-then-is_full : goal.returns-then-is_full
 returns-then-is_full c =
     let good = subst (IsTree nat_cmp) c.in-Fork.is c.at.invariant in
     let is = sym (ap (λ d. d.0) c.at.view_is) ∙ ap (λ n. (entries_and_height n).0) c.in-Fork.is in
     let full = c.is_full.ensures c.if-is_full.true in
-    way_ends c.args.number c.loop-at.from c.loop-at.upto c.args.self.now.0 c.loop-at.at.now.0 (subst (Rises nat_cmp) (sym is) good.0.rising) c.loop-at.invariant full.0 full.1 full.2
+    way_ends c.args.number c.loop-at.from c.loop-at.upto c.args.self.now.0 c.loop-at.at.now.0
+    (subst (Rises nat_cmp) (sym is) good.0.rising) c.loop-at.invariant full.0 full.1 full.2
 
 pub loop-at-smaller-then-number-k : goal.loop-at-smaller-then-number-k
 loop-at-smaller-then-number-k c =
@@ -26,8 +28,10 @@ pub loop-at-preserved-then-number-k : goal.loop-at-preserved-then-number-k
 loop-at-preserved-then-number-k c =
     let good = subst (IsTree nat_cmp) c.in-Fork.is c.at.invariant in
     let is = sym (ap (λ d. d.0) c.at.view_is) ∙ ap (λ n. (entries_and_height n).0) c.in-Fork.is in
-    let way = way_left c.args.number c.loop-at.from c.loop-at.upto c.in-Fork.k c.args.self.now.0 c.loop-at.at.now.0 c.in-Fork.l.value.0 c.in-Fork.r.value.0 is good.0 c.loop-at.invariant c.if-number-k.true in
-    subst (λ d. IsOnWay c.args.number c.loop-at.from (Some c.in-Fork.k) c.args.self.now.0 d.0) (sym c.deref-at.ensures) way
+    let way = way_left c.args.number c.loop-at.from c.loop-at.upto c.in-Fork.k c.args.self.now.0 c.loop-at.at.now.0
+    c.in-Fork.l.value.0 c.in-Fork.r.value.0 is good.0 c.loop-at.invariant c.if-number-k.true in
+    subst (λ d. IsOnWay c.args.number c.loop-at.from (Some c.in-Fork.k) c.args.self.now.0 d.0)
+    (sym c.deref-at.ensures) way
 
 pub loop-at-smaller : goal.loop-at-smaller
 loop-at-smaller c =
@@ -40,5 +44,7 @@ pub loop-at-preserved : goal.loop-at-preserved
 loop-at-preserved c =
     let good = subst (IsTree nat_cmp) c.in-Fork.is c.at.invariant in
     let is = sym (ap (λ d. d.0) c.at.view_is) ∙ ap (λ n. (entries_and_height n).0) c.in-Fork.is in
-    let way = way_right c.args.number c.loop-at.from c.loop-at.upto c.in-Fork.k c.args.self.now.0 c.loop-at.at.now.0 c.in-Fork.l.value.0 c.in-Fork.r.value.0 is good.0 c.loop-at.invariant c.if-number-k.false in
-    subst (λ d. IsOnWay c.args.number c.in-Fork.k c.loop-at.upto c.args.self.now.0 d.0) (sym c.deref-at-else-number-k.ensures) way
+    let way = way_right c.args.number c.loop-at.from c.loop-at.upto c.in-Fork.k c.args.self.now.0 c.loop-at.at.now.0
+    c.in-Fork.l.value.0 c.in-Fork.r.value.0 is good.0 c.loop-at.invariant c.if-number-k.false in
+    subst (λ d. IsOnWay c.args.number c.in-Fork.k c.loop-at.upto c.args.self.now.0 d.0)
+    (sym c.deref-at-else-number-k.ensures) way

@@ -10,13 +10,19 @@ pub returns-in-Less : goal.returns-in-Less
 returns-in-Less g c =
     let good = subst (IsTree g.K.Ord.cmp) c.in-Fork.is c.self.invariant in
     let e = sym (ap (λ d. d.0) c.self.view_is) ∙ ap (λ n. (entries_and_height n).0) c.in-Fork.is in
-    let ahead = ahead_from_from g.met.K.Ord.total c.in-Fork.r.value.0 c.in-Fork.k (g.Q.Sought.key c.args.sought.now) good.0.from (sym c.in-Less.ensures) in
-    ap (λ d. lookup (is_at (g.K.Ord.cmp (g.Q.Sought.key c.args.sought.now))) d.0) c.deref.ensures ∙ sym (lookup_ahead g.K.Ord.cmp c.in-Fork.l.value.0 c.in-Fork.r.value.0 (g.Q.Sought.key c.args.sought.now) ahead) ∙ ap (lookup (is_at (g.K.Ord.cmp (g.Q.Sought.key c.args.sought.now)))) (sym e)
+    let ahead = ahead_from_from g.met.K.Ord.total c.in-Fork.r.value.0 c.in-Fork.k (g.Q.Sought.key c.args.sought.now)
+    good.0.from (sym c.in-Less.ensures) in
+    ap (λ d. lookup (is_at (g.K.Ord.cmp (g.Q.Sought.key c.args.sought.now))) d.0) c.deref.ensures
+    ∙ sym (lookup_ahead g.K.Ord.cmp c.in-Fork.l.value.0 c.in-Fork.r.value.0 (g.Q.Sought.key c.args.sought.now)
+    ahead) ∙ ap (lookup (is_at (g.K.Ord.cmp (g.Q.Sought.key c.args.sought.now)))) (sym e)
 
 pub returns-in_default : goal.returns-in_default
 returns-in_default g c =
     let good = subst (IsTree g.K.Ord.cmp) c.in-Fork.is c.self.invariant in
     let e = sym (ap (λ d. d.0) c.self.view_is) ∙ ap (λ n. (entries_and_height n).0) c.in-Fork.is in
     let n = ap is_lt (sym c.compare.ensures) ∙ not_less c.compare.result c.in_default.not-Less in
-    let past = past_from_under g.met.K.Ord.total c.in-Fork.l.value.0 c.in-Fork.k (g.Q.Sought.key c.args.sought.now) good.0.under n in
-    ap (λ d. lookup (is_at (g.K.Ord.cmp (g.Q.Sought.key c.args.sought.now))) d.0) c.deref-in_default.ensures ∙ sym (lookup_past g.K.Ord.cmp c.in-Fork.l.value.0 c.in-Fork.r.value.0 (g.Q.Sought.key c.args.sought.now) past) ∙ ap (lookup (is_at (g.K.Ord.cmp (g.Q.Sought.key c.args.sought.now)))) (sym e)
+    let past = past_from_under g.met.K.Ord.total c.in-Fork.l.value.0 c.in-Fork.k (g.Q.Sought.key c.args.sought.now)
+    good.0.under n in
+    ap (λ d. lookup (is_at (g.K.Ord.cmp (g.Q.Sought.key c.args.sought.now))) d.0) c.deref-in_default.ensures
+    ∙ sym (lookup_past g.K.Ord.cmp c.in-Fork.l.value.0 c.in-Fork.r.value.0 (g.Q.Sought.key c.args.sought.now)
+    past) ∙ ap (lookup (is_at (g.K.Ord.cmp (g.Q.Sought.key c.args.sought.now)))) (sym e)

@@ -15,7 +15,8 @@ take_part-requires c =
 
 pub returns-in-Ok-None : goal.returns-in-Ok-None
 returns-in-Ok-None c =
-    taken_frame c.args.cluster c.args.self.now c.args.frame.now c.take_message.result c.take_message.new.self (sym c.in-Ok-None.ensures ∙ c.in-Ok-None.field-0-is) c.take_message.ensures.comes c.take_message.ensures.dropped
+    taken_frame c.args.cluster c.args.self.now c.args.frame.now c.take_message.result c.take_message.new.self
+    (sym c.in-Ok-None.ensures ∙ c.in-Ok-None.field-0-is) c.take_message.ensures.comes c.take_message.ensures.dropped
 
 pub returns-then-other-number : goal.returns-then-other-number
 returns-then-other-number c =
@@ -24,7 +25,8 @@ returns-then-other-number c =
     let cut : cut_part frame ≡ Some (p.other, p.part) = sym p.ensures ∙ p.field-0-is in
     let is = part_takes frame (p.other, p.part) (λ i. omega (arith, c.type_inv.frame i)) cut in
     let same : p.other ≡ c.args.cluster = c.if-other-number.true ∙ c.number.ensures.same in
-    taken_part c.args.cluster c.args.self.now frame p.part c.take_part.result c.take_part.new.self (subst (λ (n : ℕ). IsPart n p.part frame) same is) c.take_part.ensures
+    taken_part c.args.cluster c.args.self.now frame p.part c.take_part.result c.take_part.new.self
+    (subst (λ (n : ℕ). IsPart n p.part frame) same is) c.take_part.ensures
 
 pub returns-else-other-number : goal.returns-else-other-number
 returns-else-other-number c =

@@ -12,7 +12,8 @@ pub returns-in_err-octets : goal.returns-in_err-octets
 returns-in_err-octets c =
     let a = c.args in
     let p = err_from_is_err_and c.from_residual.result c.from_residual.ensures.1 in
-    rw (p.1, p.2) (not_made (min a.sizes.most limit) (max a.sizes.part_size 1) a.cluster a.sender a.number (written a.message.now) c.in_err-octets.field-0.0 c.in_err-octets.ensures)
+    rw (p.1, p.2) (not_made (min a.sizes.most limit) (max a.sizes.part_size 1) a.cluster a.sender a.number
+    (written a.message.now) c.in_err-octets.field-0.0 c.in_err-octets.ensures)
 
 pub returns : goal.returns
 returns c =
@@ -20,6 +21,9 @@ returns c =
     let m = written a.message.now in
     let rest = rest_octets a.cluster a.sender m in
     let octets : c.in_ok-octets.octets.items ≡ 0 ∷ 0 ∷ 0 ∷ 0 ∷ rest = c.in_ok-octets.ensures in
-    let long : min a.sizes.most limit < length (frame_octets a.cluster a.sender m) = omega (arith, ap length octets, length-append (short (length rest)) rest) in
-    let said : drop 12 c.put_kind.new.octets.items ≡ saying_octets m = c.put_kind.ensures.said ∙ ap (λ (l : List ℕ). slice_index l 11 ∷ drop 13 l) octets in
-    in_parts (min a.sizes.most limit) (max a.sizes.part_size 1) c.min-2.result a.cluster a.sender a.number m (drop 12 c.put_kind.new.octets.items) c.in_parts.result long (omega arith) said c.in_parts.ensures
+    let long : min a.sizes.most limit < length (frame_octets a.cluster a.sender m) =
+    omega (arith, ap length octets, length-append (short (length rest)) rest) in
+    let said : drop 12 c.put_kind.new.octets.items ≡ saying_octets m = c.put_kind.ensures.said
+    ∙ ap (λ (l : List ℕ). slice_index l 11 ∷ drop 13 l) octets in
+    in_parts (min a.sizes.most limit) (max a.sizes.part_size 1) c.min-2.result a.cluster a.sender a.number m
+    (drop 12 c.put_kind.new.octets.items) c.in_parts.result long (omega arith) said c.in_parts.ensures
