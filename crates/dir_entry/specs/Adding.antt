@@ -16,8 +16,7 @@ abbrev pub has_type : ℕ → List AttributeModel → Bool
 has_type t e = list_any (λ a. nat_eq a.kind t) e
 
 -- The entry with one attribute more at its end; invalidAttributeSyntax (21) where a value is not in the type's syntax,
--- then
--- attributeOrValueExists (20) where two values are equivalent or the type was given before (RFC 4511 4.7, Appendix
+-- then attributeOrValueExists (20) where two values are equivalent or the type was given before (RFC 4511 4.7, Appendix
 -- A.2).
 abbrev pub with_attribute : SchemaModel → ℕ → List (List ℕ) → List AttributeModel → Result (List AttributeModel) ℕ
 with_attribute s t values e =

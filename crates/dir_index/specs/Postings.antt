@@ -46,8 +46,7 @@ is_listed (Equal t k) e = some_key t (is_same_key k) e
 is_listed (Run t g) e = some_key t (stands_in g) e
 
 -- Whether the index choice has a posting's index. An index of values in order has the entries with each value too, and
--- those that may have
--- several; a run has three octets.
+-- those that may have several; a run has three octets.
 abbrev pub is_kept : List Kinds → Posting → Bool
 is_kept ix (Present t) = (kinds_of ix t).presence
 is_kept ix (Several t) = (kinds_of ix t).ordering

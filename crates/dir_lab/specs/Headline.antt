@@ -40,8 +40,8 @@ IsAway None = Unit {0}
 IsAway (Some r) = is_recovering r.status ≡ true
 
 -- The answer of a search over one beginning of what is committed, of this length; and where its code is success:
--- exactly the entries in scope whose
--- filter value is True, each once, in order of number, with just the selected attributes.
+-- exactly the entries in scope whose filter value is True, each once, in order of number, with just the selected
+-- attributes.
 pub record IsAnswerAt (s : SchemaModel) (root : List RdnModel) (committed : List (LogEntry OpValue)) (at : ℕ)
     (q : SearchRequestValue) (a : Answer) : Type 0 where
   pub beginning : List (LogEntry OpValue)
@@ -51,9 +51,8 @@ pub record IsAnswerAt (s : SchemaModel) (root : List RdnModel) (committed : List
   pub exact : IsExact (directory_of s root (ops_of beginning)) q a
 
 -- What is shown for a search at a replica, in the state that it has then: unavailable, where it is down or recovering;
--- else, at its commit-number:
--- not yet, where that is below the number that was named, and else the answer over one beginning of what is committed,
--- of that length.
+-- else, at its commit-number: not yet, where that is below the number that was named, and else the answer over one
+-- beginning of what is committed, of that length.
 pub record IsTold (s : SchemaModel) (root : List RdnModel) (committed : List (LogEntry OpValue))
     (o : Option (State OpValue)) (named : ℕ) (q : SearchRequestValue)
     (shown : Shown) : Type 0 where
@@ -71,8 +70,7 @@ pub record IsShownBehind (front all : List Shown) (Is : Shown → Type 0) : Type
   pub is : Is one
 
 -- For 2f + 1 replicas, each split of a schedule into what is before a search, the search and what is after: what is
--- shown for it is told of the
--- state of its replica then, over what is committed after all events.
+-- shown for it is told of the state of its replica then, over what is committed after all events.
 abbrev pub SearchesAreTold : SchemaModel → List RdnModel → ℕ → List LabEvent → List Shown → Type 0
 SearchesAreTold s root n es shown = IsSize n → (before behind : List LabEvent) (i named : ℕ) (q : SearchRequest) →
     es ≡ before ++ Search i named q ∷ behind → i < n
@@ -88,16 +86,14 @@ pub record IsReplyOf (s : SchemaModel) (root : List RdnModel) (committed : List 
   pub code : shown ≡ reply.code
 
 -- For 2f + 1 replicas each reply that is shown has the client and the number of the record at its place among what is
--- committed after all events,
--- and the code of the reply to it.
+-- committed after all events, and the code of the reply to it.
 abbrev pub RepliesAreOfCommitted : SchemaModel → List RdnModel → ℕ → List LabEvent → List Shown → Type 0
 RepliesAreOfCommitted s root n es shown = IsSize n → (t : ReplyBy) (code : ℕ) → In (Replied t code) shown →
     IsReplyOf s root (committed_by n es) t code
 
 -- What is committed after a schedule is one list: it begins with each list that is chosen in any view, of which one
--- begins with the other; it only
--- grows; it begins with what each replica has committed, which its log has; and each client's request numbers rise
--- along it.
+-- begins with the other; it only grows; it begins with what each replica has committed, which its log has; and each
+-- client's request numbers rise along it.
 pub record CommittedIsOne (n : ℕ) (es : List LabEvent) : Type 0 where
   pub agree : (a b : List (LogEntry OpValue)) → IsChosen n (after n (happenings es)).messages a →
       IsChosen n (after n (happenings es)).messages b → IsPrefix a b ⊎ IsPrefix b a

@@ -38,9 +38,8 @@ abbrev pub executions : World OpValue → ℕ → List (LogEntry OpValue)
 executions w i = executed (w.replicas i)
 
 -- What a search shows at a replica that has executed these records: unavailable, where it is down or recovering; not
--- yet, where it has committed
--- less than the number that was named; else the answer over the directory of the records, at the replica's
--- commit-number.
+-- yet, where it has committed less than the number that was named; else the answer over the directory of the records,
+-- at the replica's commit-number.
 abbrev pub found : SchemaModel → List RdnModel → List (LogEntry OpValue) → ℕ → SearchRequestValue →
     Option (State OpValue) → Shown
 found s root records named q None = Unavailable

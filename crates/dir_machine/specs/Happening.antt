@@ -142,8 +142,8 @@ IsDoneIn s root l client number (done place reply) = IsMadeIn s root l client nu
 IsDoneIn s root l client number _ = Unit {0}
 
 -- What the client table of a replica says of a request: the client's latest record is that request, which stands at a
--- place, or waits at the normal
--- primary of its view; or it is a later request; or no record of it is known, or one that need not stay.
+-- place, or waits at the normal primary of its view; or it is a later request; or no record of it is known, or one that
+-- need not stay.
 abbrev pub IsByTable : ℕ → ℕ → State OpValue → Client → ℕ → OutcomeValue → Type 0
 IsByTable n i r client number (done place reply) =
     (last : Latest) × (latest client r.log ≡ Some last) × (last.request_number ≡ number) × (last.op_number ≡ place)

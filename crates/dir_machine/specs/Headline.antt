@@ -26,10 +26,9 @@ abbrev pub committed_after : ℕ → List (WorldEvent OpValue) → List (LogEntr
 committed_after n es = committed n (after n es).messages
 
 -- What is committed after these events is one list: it begins with each list that is chosen in any view, of which one
--- begins with the other; it only grows; it
--- begins with what each replica has committed, which its log has; each client's request numbers rise along it, so that
--- each request is there once at most; and
--- of any majority of replicas that are up and don't recover, one has all of it, whatever ended before.
+-- begins with the other; it only grows; it begins with what each replica has committed, which its log has; each
+-- client's request numbers rise along it, so that each request is there once at most; and of any majority of replicas
+-- that are up and don't recover, one has all of it, whatever ended before.
 pub record CommittedIsOneList (n : ℕ) (es : List (WorldEvent OpValue)) : Type 0 where
   pub agree : (a b : List (LogEntry OpValue)) → IsChosen n (after n es).messages a → IsChosen n (after n es).messages
       b → IsPrefix a b ⊎ IsPrefix b a
@@ -50,8 +49,7 @@ MajoritiesKeep n shown es = (quorum : ℕ → Bool) → n / 2 < count quorum (in
     ((j : ℕ) → quorum j ≡ true → (j < n) × (stage shown j ≡ up)) → IsHeld (after n es) (committed_after n es)
 
 -- There is one list of what happened in the world: the schedule gives it in turn, as what is shown says, and what is
--- committed after it is one list, which
--- journals keep.
+-- committed after it is one list, which journals keep.
 pub record IsWhole (s : SchemaModel) (root : List RdnModel) (n : ℕ) (journaled : Bool) (schedule : List MachineEvent)
     (shown : List MachineReply) : Type 0 where
   pub happened : List (List (WorldEvent OpValue))

@@ -18,7 +18,6 @@ MakesSteps n i r (e ∷ es) (Err x ∷ xs) s = MakesSteps n i r es xs s
 MakesSteps n i r _ _ s = ⊥
 
 -- how much of a log is still to be committed before sessions are served: as much as before, or all of a log that is
--- shorter; nothing once that
--- much is committed
+-- shorter; nothing once that much is committed
 abbrev pub left_to_catch_up : ℕ → State OpValue → ℕ
 left_to_catch_up before r = cond (nat_le (min before (length r.log)) r.commit_number) 0 (min before (length r.log))

@@ -17,8 +17,8 @@ use Rattle.dir_node.specs.Logged.{LeavesTold, head_of}
 use Rattle.dir_node.specs.declared.config.NodeConfig.{NodeConfig}
 
 -- a node: its place among the replicas, its cluster, the replica's state, what it has executed, the device of its pair,
--- its journal where it keeps one,
--- how often it was started, whether it has stopped for good, and how much is to be committed before sessions are served
+-- its journal where it keeps one, how often it was started, whether it has stopped for good, and how much is to be
+-- committed before sessions are served
 pub record NodeValue (D J : Type 0) : Type 0 where
   pub index : ℕ
   pub count : ℕ
@@ -44,8 +44,7 @@ abbrev pub KeepsPair : {D J : Type 0} → (D → List ℕ → Type 0) → NodeVa
 KeepsPair may_leave n = (image : List ℕ) → may_leave n.device image → found n.cluster image ≡ own (pair_of n)
 
 -- Every crash of the journal's device, where there is one, leaves a journal of this node: its restarts, and the
--- replica's view, last normal view and
--- log, all of it.
+-- replica's view, last normal view and log, all of it.
 abbrev pub KeepsLog : {D J : Type 0} → (J → List ℕ → Type 0) → NodeValue D J → Type 0
 KeepsLog may_leave n = LeavesTold may_leave n.journal (head n) n.replica
 

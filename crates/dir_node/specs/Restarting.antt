@@ -70,8 +70,7 @@ pub record IsOf (o : Owner) (t : Told) : Type 0 where
   pub count : t.count ≡ o.count
 
 -- A pair and a journal go together: the pair says so, the last start of both is the same or the journal is one ahead,
--- and its view isn't below
--- the pair's, nor past the greatest number.
+-- and its view isn't below the pair's, nor past the greatest number.
 pub record GoTogether (pair : Pair) (t : Told) : Type 0 where
   pub journaled : pair.journaled ≡ true
   pub restarts : (t.restarts ≡ pair.restarts) ⊎ (t.restarts ≡ pair.restarts + 1)
@@ -146,8 +145,7 @@ RestartNotes seen may_leave o finding j image =
     × IsBegun (recorded (seen j)) start.notes image)
 
 -- A pair has no next start over a journal: none of the cluster's was found, a number would be past the greatest, or the
--- sequence of pairs is at its
--- end.
+-- sequence of pairs is at its end.
 abbrev pub CannotRestart : ℕ → List ℕ → Type 0
 CannotRestart cluster image = (found cluster image ≡ nothing) ⊎ (2 ^ 63 ≤ sequence_of (taken_from image) + 1)
     ⊎ ((pair : Pair) × (found cluster image ≡ own pair) × (2 ^ 63 ≤ pair.restarts + 2))

@@ -20,8 +20,8 @@ IsWithinParts s ix (tree t ts) es tests = (is_decided s ix t ≡ true → tests 
     × IsWithinParts s ix ts es tests
 
 -- A filter was evaluated on few of these entries: on none, where the indexes decide it; for an `and`, on at most as
--- many as each part that they
--- decide is True on; and on at most as many as hold each run of three octets that it asks for.
+-- many as each part that they decide is True on; and on at most as many as hold each run of three octets that it asks
+-- for.
 pub record IsFewOf (s : SchemaModel) (ix : List Kinds) (f : Tree) (es : List NamedEntry) (tests : ℕ) : Type 0 where
   pub within : tests ≤ length es
   pub decided : is_decided s ix f ≡ true → tests ≡ 0
@@ -33,8 +33,7 @@ abbrev pub those_up_to : ℕ → List NamedEntry → List NamedEntry
 those_up_to m es = filter (λ e. nat_le e.number m) es
 
 -- A search at a base evaluated its filter on few of the entries in scope; and where more of them match than the size
--- limit, on few of those up to
--- the first past it.
+-- limit, on few of those up to the first past it.
 pub record IsFewAtBase (ix : List Kinds) (d : Directory) (q : SearchRequestValue) (base : List RdnModel) (tests : ℕ) :
     Type 0 where
   pub few : IsFewOf d.schema ix q.filter (in_scope d q.scope base) tests

@@ -8,8 +8,7 @@ use Rattle.state_machine.specs.Executing.{ExecutedValue, directory_at}
 use Rattle.dir_seats.specs.Lists.{IsBeginning, longer}
 
 -- A read is of one published list, which the floor begins and which is the floor from then on: it is answered at its
--- length, or told that it is
--- shorter than was named, or finds no memory. Where the publisher is gone, the floor stays.
+-- length, or told that it is shorter than was named, or finds no memory. Where the publisher is gone, the floor stays.
 abbrev pub IsReadFrom : {A : Type 0} → ExecutedValue → ExecutedValue → ℕ → A → Looked A → Type 0
 IsReadFrom floor now named answered gone = now ≡ floor
 IsReadFrom floor now named answered (found at a) = IsBeginning floor now × IsReadAt (length now.records) named

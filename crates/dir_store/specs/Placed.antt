@@ -7,8 +7,7 @@ use Rattle.indexed_tree.specs.directory_api.Answers.{ReplyModel}
 use Rattle.dir_store.specs.Updates.{applied, reply_to, directory_after, replies_after}
 
 -- The reply to the update at a place, counted from 0, of updates that are made one after the other, the first under the
--- number that follows this
--- one; none, where no update has the place.
+-- number that follows this one; none, where no update has the place.
 abbrev pub reply_at : Directory → ℕ → List OpValue → ℕ → Option ReplyModel
 reply_at d number [] p = None
 reply_at d number (op ∷ ops) zero = Some (reply_to d (number + 1) op)

@@ -92,8 +92,7 @@ abbrev pub name_after : NameKey → List RdnModel → List RdnModel → List Rdn
 name_after old new name = cond (begins old (rdns name)) (new ++ drop (length old) name) name
 
 -- The directory once an entry has another name and other attributes: each name that begins with the old one begins with
--- the
--- new one in its place, and all else stays (RFC 4511 4.9).
+-- the new one in its place, and all else stays (RFC 4511 4.9).
 abbrev pub moved : NameKey → List RdnModel → List KeyedAttribute → List Entered → List Entered
 moved old new entry d = map (λ e. record {
   number = e.number;
@@ -131,8 +130,7 @@ NamesDiffer [] = Unit {0}
 NamesDiffer (e ∷ es) = (find (rdns e.name) es ≡ None) × NamesDiffer es
 
 -- What every directory keeps: numbers rise, names differ, each name begins with the suffix, and each entry but the
--- suffix's has
--- an entry right above it (RFC 4512 2.1).
+-- suffix's has an entry right above it (RFC 4512 2.1).
 pub record IsDirectory (suffix : NameKey) (d : List Entered) : Type 0 where
   pub rise : NumbersRise d
   pub differ : NamesDiffer d

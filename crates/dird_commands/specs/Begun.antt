@@ -70,8 +70,7 @@ AnswersFrom s with_sample input left output grown end =
     (after : LocalValue) × Answers allows (config_of s) (local_at_first s with_sample) after input left output grown end
 
 -- A session over a local directory that ends by a fault has written nothing, since it did not begin; or it has written
--- what such a session over lines
--- has written by then.
+-- what such a session over lines has written by then.
 abbrev pub IsCutFrom : ConfigValue → LocalValue → LocalValue → Option (List ℕ) → Option (List ℕ) → Option (List ℕ) →
     Fault → Type 0
 IsCutFrom c d e input output grown fault = (grown ≡ output) ⊎ ((error : LineFault) × (fault ≡ line_fault error)

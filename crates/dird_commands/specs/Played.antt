@@ -1,6 +1,5 @@
 -- What playing a script writes, and why a script isn't played: an input comes in, and the text that is written or the
--- fault that a run of it
--- ends with.
+-- fault that a run of it ends with.
 use Rattle.lab_script.specs.declared.fault.ScriptError.{ScriptError}
 use Rattle.lab_script.specs.declared.fault.ScriptError.TheVariants as script_error
 use Rattle.dird_commands.specs.declared.fault.Fault.{Fault}

@@ -39,14 +39,12 @@ is_empty [] = true
 is_empty (v ∷ vs) = false
 
 -- values that may stand together: invalidAttributeSyntax (21) where one is not in the type's syntax, then
--- attributeOrValueExists (20)
--- where two are equivalent (RFC 4511 Appendix A.2)
+-- attributeOrValueExists (20) where two are equivalent (RFC 4511 Appendix A.2)
 abbrev pub if_distinct : {A : Type 0} → SchemaModel → ℕ → List (List ℕ) → Result A ℕ → Result A ℕ
 if_distinct s t values rest = refuse (not (are_in_syntax s t values)) 21 (refuse (has_repeats s t values) 20 rest)
 
 -- A change that adds values, at the end of their attribute: constraintViolation (19) without a value, 21 and 20 as
--- above, then 20 where
--- a value is held (RFC 4511 4.6, Appendix A.2).
+-- above, then 20 where a value is held (RFC 4511 4.6, Appendix A.2).
 abbrev pub with_added : SchemaModel → ℕ → List (List ℕ) → List AttributeModel → Result (List AttributeModel) ℕ
 with_added s t values e =
     refuse (is_empty values) 19
@@ -69,8 +67,7 @@ without_values s t values e =
     (Ok (with_values_of t (values_left s t values (values_of t e)) e)))
 
 -- A change that deletes values, or the attribute whole where no value is given; an attribute of which all values are
--- deleted is gone
--- (RFC 4511 4.6, Appendix A.2).
+-- deleted is gone (RFC 4511 4.6, Appendix A.2).
 abbrev pub with_deleted : SchemaModel → ℕ → List (List ℕ) → List AttributeModel → Result (List AttributeModel) ℕ
 with_deleted s t [] e = without_attribute t e
 with_deleted s t (v ∷ vs) e = without_values s t (v ∷ vs) e

@@ -36,8 +36,7 @@ without_value s new p e = cond (list_any (is_same_value s p) new || not (has_val
     (with_deleted s p.kind (p.value ∷ []) e)
 
 -- The entry without the values of its former relative name that are not in the new one; an attribute left without
--- values is gone
--- (RFC 4511 4.9, deleteoldrdn).
+-- values is gone (RFC 4511 4.9, deleteoldrdn).
 abbrev pub without_rdn : SchemaModel → List TypeAndValue → List TypeAndValue → List AttributeModel →
     Result (List AttributeModel) ℕ
 without_rdn s new [] e = Ok e

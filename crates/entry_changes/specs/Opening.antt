@@ -1,6 +1,5 @@
 -- Attributes whose values are changed one by one: every value that was ever there stays in its place, and an index says
--- since which place
--- values of some octets are held. No contract above names it.
+-- since which place values of some octets are held. No contract above names it.
 use Rattle.std.specs.Prelude.{ℕ, ◌+◌, List, [], ◌∷◌, Bool, true, false, Option, None, Some}
 use Rattle.std.specs.Bool.{nat_le}
 use Rattle.dir_entry.specs.Entry.{KeyedAttribute}

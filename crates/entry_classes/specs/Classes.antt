@@ -129,8 +129,7 @@ obeys_classes s e =
     && obeys s (classes_named s (class_values s e)) e
 
 -- An entry as it stands: constraintViolation (19) where a SINGLE-VALUE type has two values, then objectClassViolation
--- (65) where its
--- classes are not obeyed (RFC 4511 Appendix A.2).
+-- (65) where its classes are not obeyed (RFC 4511 Appendix A.2).
 abbrev pub checked : SchemaModel → List AttributeModel → Result (List AttributeModel) ℕ
 checked s e = refuse (not (has_single_values s e)) 19 (refuse (not (obeys_classes s e)) 65 (Ok e))
 

@@ -20,15 +20,13 @@ dropped s false new old e = Ok e
 dropped s true new old e = without_rdn s new old e
 
 -- The attributes under a new relative name: its values join; if asked, the old ones leave; then the superclasses, and
--- what the classes demand
--- (RFC 4511 4.9).
+-- what the classes demand (RFC 4511 4.9).
 abbrev pub renamed : SchemaModel → List TypeAndValue → List TypeAndValue → Bool → List AttributeModel →
     Result (List AttributeModel) ℕ
 renamed s old new delete_old e = and_then (and_then (with_rdn s new e) (dropped s delete_old new old)) (settled s)
 
 -- The entry at the end of a modify: notAllowedOnRDN (67) where a value of its relative name is gone, then the codes
--- above (RFC 4511 4.6,
--- Appendix A.2).
+-- above (RFC 4511 4.6, Appendix A.2).
 abbrev pub kept : SchemaModel → List TypeAndValue → List AttributeModel → List AttributeModel →
     Result (List AttributeModel) ℕ
 kept s rdn before e = refuse (not (has_rdn s rdn e)) 67 (kept_completed s before (completed s e))

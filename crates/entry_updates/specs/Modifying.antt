@@ -26,8 +26,7 @@ with_change s Replace t values e = with_replaced s t values e
 with_change s Increment t values e = Err 2
 
 -- One change: protocolError (2) for an increment, undefinedAttributeType (17) where the description is not recognised,
--- then what the change
--- itself refuses.
+-- then what the change itself refuses.
 abbrev pub changed : SchemaModel → ChangeValue → List AttributeModel → Result (List AttributeModel) ℕ
 changed s c e =
     refuse (is_increment c.operation) 2

@@ -1,6 +1,5 @@
 -- What a file held as it was opened and what was asked of it since, as the clauses of the devices speak of it. What
--- follows for a reader, and for a
--- crash, is defined in journal and in view_store, by the record of a device in memory.
+-- follows for a reader, and for a crash, is defined in journal and in view_store, by the record of a device in memory.
 use Rattle.std.specs.Prelude.{ℕ, List, [], map}
 use Rattle.journal.specs.Memory.{Event, nothing, write, grow, settle, seen_after}
 use Rattle.view_store.specs.Memory.{Event as ViewEvent, nothing as view_nothing, write as view_write, settle as view_settle}

@@ -74,8 +74,7 @@ IsFlag true text = (w : List ℕ) × (text ≡ 58 ∷ w) × (is_dn w ≡ true)
 IsFlag false text = text ≡ []
 
 -- which descriptions, flags and rules stand together: a description or a rule, each in its form, and no rule `dn` right
--- behind a
--- description, where it reads as dnattrs
+-- behind a description, where it reads as dnattrs
 abbrev pub is_applicable : Option (List ℕ) → Bool → Option (List ℕ) → Bool
 is_applicable None flag None = false
 is_applicable None flag (Some r) = is_oid r

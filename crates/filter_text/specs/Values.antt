@@ -10,8 +10,7 @@ abbrev pub is_normal : ℕ → Bool
 is_normal c = (nat_le 1 c && nat_le c 39) || (nat_le 43 c && nat_le c 91) || (nat_le 93 c && nat_le c 255)
 
 -- A text spells a value: a normal octet stands for itself, and a backslash and two hexadecimal digits for the octet of
--- that number
--- (RFC 4515 3, valueencoding).
+-- that number (RFC 4515 3, valueencoding).
 pub data IsValue : List ℕ → List ℕ → Type 0 where
   nothing : IsValue [] []
   normal : {v text : List ℕ} (c : ℕ) → is_normal c ≡ true → IsValue v text → IsValue (c ∷ v) (c ∷ text)

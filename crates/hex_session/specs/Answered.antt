@@ -23,8 +23,7 @@ IsProperEnd WriteFailed = ⊥
 IsProperEnd NoMemory = ⊥
 
 -- Of what is left of an input, where a session ended so: nothing, where the input's end is what ended it. A read or a
--- write that fails, and want of
--- memory, are no ends but faults.
+-- write that fails, and want of memory, are no ends but faults.
 abbrev pub IsAllRead : SessionEnd → List ℕ → Type 0
 IsAllRead Unbound rest = Unit {0}
 IsAllRead EndOfInput rest = rest ≡ []
@@ -35,8 +34,8 @@ IsAllRead WriteFailed rest = ⊥
 IsAllRead NoMemory rest = ⊥
 
 -- The lines at the front of an input spell the pieces of a stream, all of them unless something else ended the session;
--- the session over that
--- stream has ended, along a talk with the directory, and the output has grown by its responses, each a line.
+-- the session over that stream has ended, along a talk with the directory, and the output has grown by its responses,
+-- each a line.
 pub record IsAnswered {D T : Type 0} (allows : D → Exchange T → D → Type 0) (c : ConfigValue) (d e : D) (xs : List ℕ)
     (left : Option (List ℕ)) (ys : List ℕ) (grown : Option (List ℕ)) (end : SessionEnd) : Type 0 where
   pub rest : List ℕ
@@ -55,8 +54,7 @@ Answers allows c d e input left output grown end = IfSome input
     (λ xs. IfSome output (λ ys. IsAnswered allows c d e xs left ys grown end))
 
 -- Which fault comes behind so many lines, where this is left: a line is named, counted from 1, that is no hex. Of the
--- others, what they are
--- says why.
+-- others, what they are says why.
 abbrev pub IsCause : LineFault → ℕ → List ℕ → Type 0
 IsCause (BadHexLine number) before rest = (number ≡ suc before) × IsBadLine rest
 IsCause CannotRead before rest = Unit {0}
@@ -65,10 +63,9 @@ IsCause TooLong before rest = Unit {0}
 IsCause NoMemoryFault before rest = Unit {0}
 
 -- The lines up to a fault spell the pieces of a stream. Before a line that can't be read all whole messages of that
--- stream are answered, and the
--- output has grown by all their responses, each a line. Where the output can't be written, a response is too long or
--- memory is wanting, it has
--- grown by a front of these lines, with the notice only where it is due.
+-- stream are answered, and the output has grown by all their responses, each a line. Where the output can't be written,
+-- a response is too long or memory is wanting, it has grown by a front of these lines, with the notice only where it is
+-- due.
 pub record IsCutShort {D T : Type 0} (allows : D → Exchange T → D → Type 0) (c : ConfigValue) (d e : D)
     (xs ys : List ℕ) (grown : Option (List ℕ)) (fault : LineFault) : Type 0 where
   pub before : ℕ

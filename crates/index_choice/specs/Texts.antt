@@ -128,8 +128,7 @@ fault_in s (Ok ls) = refused_at (first_line is_unknown ls) UnknownName (refused_
     IndexWithoutRule None)
 
 -- The first thing that is wrong: a line that says nothing, else one that names a type that is not there, else one that
--- asks for an
--- index by a rule that its type lacks.
+-- asks for an index by a rule that its type lacks.
 abbrev pub fault_of : SchemaModel → List ℕ → Option IndexError
 fault_of s text = fault_in s (index_lines s text)
 

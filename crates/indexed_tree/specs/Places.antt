@@ -55,8 +55,7 @@ with_attributes k attributes (e ∷ es) =
     (e ∷ with_attributes k attributes es)
 
 -- The entries once one has another name and other attributes: each name that begins with the old one begins with the
--- new one in its place,
--- and all else stays (RFC 4511 4.9).
+-- new one in its place, and all else stays (RFC 4511 4.9).
 abbrev pub moved : NameKey → List RdnModel → List AttributeModel → List NamedEntry → List NamedEntry
 moved old new attributes es =
     map (λ e. record {

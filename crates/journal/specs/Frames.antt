@@ -1,7 +1,6 @@
 -- Frames: a string of octets with its length and the number of its octets that aren't zero. A journal stands for the
--- strings of its whole frames, up
--- to the first that isn't whole. Where nothing was written yet there are zeros, so a torn write can only lose octets,
--- and the count tells.
+-- strings of its whole frames, up to the first that isn't whole. Where nothing was written yet there are zeros, so a
+-- torn write can only lose octets, and the count tells.
 use Rattle.std.specs.Prelude.{◌≡◌, ◌<◌, ◌^◌, ℕ, zero, suc, ◌+◌, ◌-◌, ◌*◌, ◌/◌, ◌%◌, Bool, true, false, cond, ◌&&◌, ◌==◌, nat_le, List, [], ◌∷◌, ◌++◌, length, take, drop, replicate}
 
 -- a number in so many octets, none of which is zero: seven bits each, the least first, and the top bit set

@@ -150,7 +150,6 @@ IsLineOf (search_line rest) line es = IsOne (IsSearch rest) es
 IsLineOf plain_line line es = events_by_words line ≡ Some es
 
 -- The events that a line after the first names: `request R C N OP`, `search R NAMED BASE|SCOPE|FILTER`, `deliver K ..`,
--- `suspect R`, `beat R`,
--- `crash R`, `recover R X`, `resume R`, `resume R K` and `state R`, and no other line.
+-- `suspect R`, `beat R`, `crash R`, `recover R X`, `resume R`, `resume R K` and `state R`, and no other line.
 abbrev pub IsLine : List ℕ → List EventValue → Type 0
 IsLine line es = IsLineOf (kind_of line) line es

@@ -11,8 +11,7 @@ use Rattle.lab_script.specs.Events.{event_view}
 use Rattle.lab_script.specs.Script.{IsSchedule}
 
 -- What is shown is what the schedule that the lines name shows from the first world on, with as many replicas as the
--- first line names; and what each
--- search, each reply and what is committed is promised holds of that schedule.
+-- first line names; and what each search, each reply and what is committed is promised holds of that schedule.
 pub record IsPlayed (s : SchemaModel) (root : List RdnModel) (lines : List (List ℕ)) (shown : List Shown) : Type 0 where
   pub count : ℕ
   pub events : List LabEvent

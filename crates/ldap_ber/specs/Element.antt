@@ -8,8 +8,8 @@ abbrev pub AreOctets : List ℕ → Type 0
 AreOctets bs = AllByRecursion (λ b. b < 256) bs
 
 -- The octets that spell a length (X.690 8.1.3.4, 8.1.3.5; RFC 4511 5.1): the length alone, below 128, or how many
--- octets follow, from 129 to 132,
--- and the length in those. Zeros in front are allowed, so a length has several spellings.
+-- octets follow, from 129 to 132, and the length in those. Zeros in front are allowed, so a length has several
+-- spellings.
 abbrev pub IsLength : List ℕ → ℕ → Type 0
 IsLength [] n = ⊥
 IsLength (a ∷ []) n = (a < 128) × (n ≡ a)

@@ -6,8 +6,8 @@ use Rattle.ldap_dn.specs.declared.token.Token.{Token}
 use Rattle.ldap_dn.specs.declared.token.Token.TheVariants.{Plain, Escaped}
 
 -- a text spells octets: each one but backslash stands for itself; a backslash and an octet that it may stand before
--- spell that octet,
--- and a backslash and two hexadecimal digits spell the octet of that number (RFC 4514 3, stringchar and pair)
+-- spell that octet, and a backslash and two hexadecimal digits spell the octet of that number (RFC 4514 3, stringchar
+-- and pair)
 pub data IsSpelled : List ℕ → List Token → Type 0 where
   nothing : IsSpelled [] []
   as_it_stands : {cs : List ℕ} {ts : List Token} (c : ℕ) → nat_eq c 92 ≡ false → IsSpelled cs ts →

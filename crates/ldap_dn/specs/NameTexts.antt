@@ -16,8 +16,7 @@ pub data AreWritten (s : SchemaModel) : List (List Token) → List TypeAndValue 
       type_and_value_of s p ≡ Some v → AreWritten s parts vs → AreWritten s (p ∷ parts) (v ∷ vs)
 
 -- tokens are a relative name: types and values with `+` between them, whose keys can be set in rising order of type
--- (RFC 4514 3,
--- relativeDistinguishedName)
+-- (RFC 4514 3, relativeDistinguishedName)
 pub record IsRdn (s : SchemaModel) (ts : List Token) (r : RdnModel) : Type 0 where
   pub parts : List (List Token)
   pub is_parted : IsParted 43 ts parts
@@ -31,8 +30,7 @@ pub data AreRdns (s : SchemaModel) : List (List Token) → List RdnModel → Typ
       AreRdns s parts rs → AreRdns s (p ∷ parts) (r ∷ rs)
 
 -- A text is a name's: it spells SPACEs alone, and the name is empty; or it spells relative names with `,` between them,
--- the root's last
--- (RFC 4514 3, distinguishedName).
+-- the root's last (RFC 4514 3, distinguishedName).
 pub data IsNameText (s : SchemaModel) : List ℕ → List RdnModel → Type 0 where
   is_empty : {text : List ℕ} {ts : List Token} → IsSpelled text ts → list_all is_space ts ≡ true → IsNameText s text []
   has_rdns : {text : List ℕ} {ts : List Token} {parts : List (List Token)} {rs : List RdnModel} → IsSpelled text ts →

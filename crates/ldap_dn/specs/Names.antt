@@ -14,8 +14,7 @@ pub record TypeAndKey : Type 0 where
   pub key : List ℕ
 
 -- A relative name (RFC 4512 2.3.1): its types with their keys in rising order of type, each type once, and beside them
--- its
--- types with their values in the order written.
+-- its types with their values in the order written.
 pub record RdnModel : Type 0 where
   pub keys : List TypeAndKey
   pub spelling : List TypeAndValue

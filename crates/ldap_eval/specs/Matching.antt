@@ -43,10 +43,8 @@ supported_in (Some t) f = cond (is_used_on f t.syntax && is_own_or_text t.syntax
     (Some (record { family = f; syntax = t.syntax })) None
 
 -- The rule of a family on a type's values; none, where the type doesn't support it: the family's rules are not used on
--- its syntax (RFC 4517 4.2). A
--- type whose values are no text supports the rules of its EQUALITY rule's family: no schema that is read has a type
--- without that rule, or with one
--- that is not used on its syntax.
+-- its syntax (RFC 4517 4.2). A type whose values are no text supports the rules of its EQUALITY rule's family: no
+-- schema that is read has a type without that rule, or with one that is not used on its syntax.
 abbrev pub supported_rule : SchemaModel → ℕ → Family → Option Rule
 supported_rule s t f = supported_in (slice_get s.types t) f
 
@@ -67,8 +65,7 @@ satisfies true m o = option_map_or (λ n. is_less_meaning n m) o false
 satisfies false m o = is_meant m o
 
 -- The item on the values of one attribute: True if a value satisfies the rule; Undefined if the type doesn't support
--- it, or the assertion is not in
--- the type's syntax; else False.
+-- it, or the assertion is not in the type's syntax; else False.
 abbrev pub match_on_values : SchemaModel → How → List ℕ → ℕ → List (List ℕ) → Truth
 match_on_values s h a t values = by_rule (satisfies (asks_less h)) (λ r. meaning s r a) s (rule_for s h t) values
 

@@ -23,8 +23,7 @@ abbrev pub attributes_under : SchemaModel → ℕ → List AttributeModel → Li
 attributes_under s t e = filter (λ a. is_under s a.kind t) e
 
 -- The item on a type: Undefined, where the type lacks the rule or the assertion is not in its syntax; else the `or` of
--- the
--- item on each attribute of the type and its subtypes (RFC 4511 4.5.1.7).
+-- the item on each attribute of the type and its subtypes (RFC 4511 4.5.1.7).
 abbrev pub item_on_type : SchemaModel → Item → ℕ → List AttributeModel → Truth
 item_on_type s asked t e = cond (is_answerable s asked t)
     (disjunction (map (λ a. item_on_attribute s asked a.kind a.values) (attributes_under s t e))) Undefined
@@ -46,7 +45,8 @@ parts_of s = record { initial = s.initial; any = s.any; last = s.last }
 abbrev pub asked_by : Comparison → List ℕ → Item
 asked_by filter_item.at_least a = at_least a
 asked_by filter_item.at_most a = at_most a
-asked_by k a = equal a
+asked_by filter_item.equal a = equal a
+asked_by filter_item.approximate a = equal a
 
 -- ---- extensible items (RFC 4511 4.5.1.7.7)
 
@@ -62,8 +62,7 @@ type_of s None = Some None
 type_of s (Some d) = option_map Some (find s d)
 
 -- Whether an item can be matched: with a type, the type supports the rule, and the assertion is in its syntax; with a
--- rule alone, some type of the
--- schema supports it that has the assertion in its syntax; with neither, it can not.
+-- rule alone, some type of the schema supports it that has the assertion in its syntax; with neither, it can not.
 abbrev pub is_matched : SchemaModel → How → Option ℕ → List ℕ → Bool
 is_matched s how.Own None a = false
 is_matched s how.Own (Some t) a = is_of_syntax s t a
@@ -98,8 +97,7 @@ match_by s (Some h) x n e = option_map_or (λ t. match_with s h t x.match_value 
     (type_of s x.description) Undefined
 
 -- An extensible item on an entry: Undefined, where it can't be matched; else the `or` of the item on each attribute
--- that it looks at and, if it asks
--- for the name too, on each pair of the entry's name (RFC 4511 4.5.1.7.7).
+-- that it looks at and, if it asks for the name too, on each pair of the entry's name (RFC 4511 4.5.1.7.7).
 abbrev pub extensible_value : SchemaModel → ExtensibleValue → List RdnModel → List AttributeModel → Truth
 extensible_value s x n e = match_by s (how_of x.matching_rule) x n e
 

@@ -31,8 +31,7 @@ AreAnyParts [] octets rest = (octets ≡ rest) × BeginsOtherwise octets 129
 AreAnyParts (v ∷ vs) octets rest = Seq (HasField octets 129 v) (λ octets. AreAnyParts vs octets rest)
 
 -- substrings SEQUENCE SIZE (1..MAX) OF CHOICE { initial [0], any [1], final [2] }: initial at most once and first,
--- final at
--- most once and last, and some part at least (RFC 4511 4.5.1.7.2)
+-- final at most once and last, and some part at least (RFC 4511 4.5.1.7.2)
 abbrev pub AreParts : SubstringsValue → List ℕ → Type 0
 AreParts s parts = (parts ≢ []) × Seq (HasOctetsOrNone parts 128 s.initial) (λ octets. Seq (AreAnyParts s.any octets)
     (λ octets. HasOctetsOrNone octets 130 s.last []))

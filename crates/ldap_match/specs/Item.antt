@@ -91,8 +91,7 @@ beside None r = None
 beside (Some o) r = r
 
 -- The ORDERING rule in effect for a type: its EQUALITY rule, where it has an ORDERING rule and values of the family
--- have
--- an order. The rules of one type are of one family, so values mean under both the same.
+-- have an order. The rules of one type are of one family, so values mean under both the same.
 abbrev pub ordering_of : SchemaModel → ℕ → Option Rule
 ordering_of s t = option_and_then (λ d. beside d.ordering (of_family is_ordering d.equality)) (slice_get s.types t)
 

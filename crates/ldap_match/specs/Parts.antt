@@ -30,8 +30,7 @@ are_in_order (p ∷ ps) whole = list_any (λ rest. is_at_start p rest && are_in_
     (tails whole)
 
 -- The initial part stands at the start, the last part at the end of what follows, and the others between them in order,
--- none
--- over another.
+-- none over another.
 abbrev pub has_parts : PartsModel → List ℕ → Bool
 has_parts p whole =
     let rest = drop (length (part_or_nothing p.initial)) whole in

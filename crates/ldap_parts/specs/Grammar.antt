@@ -27,8 +27,7 @@ HasLdapResult r octets rest =
     (λ octets. HasRowOrNone (λ t octets rest. HasText octets 4 t rest) octets 163 r.referral rest)
 
 -- A response that is an LDAPResult, and elements after it that are ignored: to a bind (whose serverSaslCreds are
--- ignored), a search, a modify,
--- an add, a delete, a modifyDN or a compare (RFC 4511 4.2.2, 4.5.2, 4.6 to 4.10)
+-- ignored), a search, a modify, an add, a delete, a modifyDN or a compare (RFC 4511 4.2.2, 4.5.2, 4.6 to 4.10)
 abbrev pub IsLdapResult : LdapResultValue → List ℕ → Type 0
 IsLdapResult r content = Seq (HasLdapResult r content) AreElements
 

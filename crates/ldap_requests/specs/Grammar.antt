@@ -60,8 +60,7 @@ HasAuthentication (simple password) octets rest = HasField octets 128 password r
 HasAuthentication (sasl s) octets rest = HasPart (IsSaslCredentials s) octets 163 rest
 
 -- BindRequest ::= [APPLICATION 0] SEQUENCE { version INTEGER, name LDAPDN, authentication AuthenticationChoice } (RFC
--- 4511 4.2);
--- a version is any integer here, so that another than 3 can be answered
+-- 4511 4.2); a version is any integer here, so that another than 3 can be answered
 abbrev pub IsBindRequest : BindRequestValue → List ℕ → Type 0
 IsBindRequest b content =
     Seq (HasInteger content 2 b.version) (λ octets. Seq (HasText octets 4 b.name)

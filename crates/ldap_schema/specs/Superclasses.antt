@@ -38,8 +38,7 @@ abbrev pub filled : List ClassModel → List ℕ → List ℕ
 filled classes cs = filled_from (length cs + length classes) classes 0 cs
 
 -- These classes, and at the end their superclasses that are missing: for each class in turn, added ones included, its
--- direct
--- superclasses in the order written (RFC 4512 2.4).
+-- direct superclasses in the order written (RFC 4512 2.4).
 abbrev pub with_superclasses : SchemaModel → List ℕ → List ℕ
 with_superclasses s cs = filled s.classes cs
 

@@ -42,8 +42,7 @@ abbrev pub sends : ConversationValue → ℕ → ConversationValue
 sends v count = record v { unsent = drop count v.unsent }
 
 -- A conversation so far: of the octets heard these messages are served, along these visits. What was given out and what
--- is unsent are,
--- together and in order, the octets of all responses.
+-- is unsent are, together and in order, the octets of all responses.
 pub record Stands {D T : Type 0} (allows : D → Exchange T → D → Type 0) (c : ConfigValue) (visits : List (D × D))
     (v : ConversationValue) (heard given : List ℕ) : Type 0 where
   pub handed : List MessageValue

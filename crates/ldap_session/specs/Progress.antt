@@ -55,8 +55,7 @@ pub record IsIdle {D : Type 0} (s t : SessionValue) (d e : D) : Type 0 where
   pub untouched : e ≡ d
 
 -- What an attempt to answer the next message comes to: it is awaited; it is answered, or what stands in its place is no
--- message and is
--- answered by the notice; or there is an error.
+-- message and is answered by the notice; or there is an error.
 abbrev pub Answers : {D T : Type 0} → (D → Exchange T → D → Type 0) → ConfigValue → SessionValue → SessionValue → D →
     D → Result (Option Answered) AnswerError → Type 0
 Answers allows c s t d e (Ok None) = IsIdle s t d e × (s.framed.fault ≡ None)
@@ -67,8 +66,7 @@ Answers allows c s t d e (Err error) =
     FailsNext allows c s t d e error ⊎ (IsIdle s t d e × (s.framed.fault ≡ None → ⊥) × (error ≡ TooLong → ⊥))
 
 -- A session so far: of the octets read, these messages are answered, along a talk with the directory, and these octets,
--- in which the
--- responses are shown, are written.
+-- in which the responses are shown, are written.
 pub record Reached {D T : Type 0} (shown : List MessageValue → List ℕ) (allows : D → Exchange T → D → Type 0)
     (c : ConfigValue) (d e : D) (s : SessionValue) (read written : List ℕ) : Type 0 where
   pub handed : List MessageValue

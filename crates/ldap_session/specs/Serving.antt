@@ -48,10 +48,9 @@ IsFrontDue shown next more ending responses written =
     × IsFront written (shown (responses ++ notice ∷ [])))
 
 -- What each end says. Unbound: the client unbound. Disconnected: a message is no request, or what stands behind the
--- messages is no message
--- and was answered by the notice. At the end of the input and after a failed read all messages are answered, a further
--- one is awaited, and all
--- responses are written; after a failed write and without memory a front of what is due is.
+-- messages is no message and was answered by the notice. At the end of the input and after a failed read all messages
+-- are answered, a further one is awaited, and all responses are written; after a failed write and without memory a
+-- front of what is due is.
 abbrev pub IsEnd : (List MessageValue → List ℕ) → SessionEnd → Next → List MessageValue → Ending → List MessageValue →
     List ℕ → Type 0
 IsEnd shown Unbound next more ending responses written = (next ≡ UnboundNext) × (written ≡ shown responses)
@@ -68,8 +67,7 @@ IsEnd shown WriteFailed next more ending responses written = IsFrontDue shown ne
 IsEnd shown NoMemory next more ending responses written = IsFrontDue shown next more ending responses written
 
 -- The responses to all messages but at most the last are written whole, along the front of the talk that these were
--- answered by: once a write
--- has failed, no further message is taken.
+-- answered by: once a write has failed, no further message is taken.
 pub record IsWholeBefore {T : Type 0} (shown : List MessageValue → List ℕ) (c : ConfigValue)
     (handed : List MessageValue) (talk : List (Exchange T)) (responses : List MessageValue) (written : List ℕ) :
     Type 0 where
@@ -88,8 +86,7 @@ pub record IsWholeBefore {T : Type 0} (shown : List MessageValue → List ℕ) (
   pub whole : IsFront (shown said) written
 
 -- A session that has ended: the messages of the octets read, up to the end, are answered by a session along a talk with
--- the directory, and
--- what is written shows its responses, those to all messages but the last whole.
+-- the directory, and what is written shows its responses, those to all messages but the last whole.
 pub record Ends {D T : Type 0} (shown : List MessageValue → List ℕ) (allows : D → Exchange T → D → Type 0)
     (c : ConfigValue) (d e : D) (read written : List ℕ) (end : SessionEnd) : Type 0 where
   pub handed : List MessageValue
@@ -116,8 +113,7 @@ IsRead WriteFailed left = Unit {0}
 IsRead NoMemory left = Unit {0}
 
 -- A reader and a writer are served: the octets that were read, but for what memory was wanting for, and the octets that
--- were written are
--- those of a session that has ended.
+-- were written are those of a session that has ended.
 pub record Served {D T : Type 0} (allows : D → Exchange T → D → Type 0) (c : ConfigValue) (d e : D)
     (input left output grown : Option (List ℕ)) (end : SessionEnd) : Type 0 where
   pub read : List ℕ

@@ -10,9 +10,8 @@ use Rattle.session_handler.specs.declared.answered.Next.{Next}
 use Rattle.session_handler.specs.declared.answered.Next.TheVariants.{GoesOn}
 
 -- Messages were served in turn, each by one directory, which is seen before it and after it: all that was asked for a
--- message was put to the
--- directory that served it, which went along that. The whole talk, the state and the responses are those of one
--- session.
+-- message was put to the directory that served it, which went along that. The whole talk, the state and the responses
+-- are those of one session.
 pub data Visited {D T : Type 0} (allows : D → Exchange T → D → Type 0) (c : ConfigValue) :
     List MessageValue → List (D × D) → List (Exchange T) → State → List MessageValue → Next → Type 0 where
   none : Visited allows c [] [] [] at_first [] GoesOn

@@ -36,7 +36,12 @@ key_in family.Boolean v = cond (is_boolean v) (Some v) None
 key_in family.Integer v = cond (is_integer v) (Some (number_key v)) None
 key_in family.Octet v = Some v
 key_in family.Time v = cond (is_time v) (Some v) None
-key_in f v = utf8_of (spelled f Whole v)
+key_in family.Ignore v = utf8_of (spelled family.Ignore Whole v)
+key_in family.Exact v = utf8_of (spelled family.Exact Whole v)
+key_in family.Numeric v = utf8_of (spelled family.Numeric Whole v)
+key_in family.Telephone v = utf8_of (spelled family.Telephone Whole v)
+key_in family.Ia5 v = utf8_of (spelled family.Ia5 Whole v)
+key_in family.Ia5Exact v = utf8_of (spelled family.Ia5Exact Whole v)
 
 -- a value's key under a rule; none, where the value isn't in the syntax
 abbrev pub key_at : Rule → List ℕ → Option (List ℕ)

@@ -40,7 +40,12 @@ meaning_in family.Boolean v = cond (is_boolean v) (Some (truth (bytes_eq v true_
 meaning_in family.Integer v = cond (is_integer v) (Some (number (number_of v))) None
 meaning_in family.Octet v = Some (octets v)
 meaning_in family.Time v = cond (is_time v) (Some (text v)) None
-meaning_in f v = as_text (spelled f Whole v)
+meaning_in family.Ignore v = as_text (spelled family.Ignore Whole v)
+meaning_in family.Exact v = as_text (spelled family.Exact Whole v)
+meaning_in family.Numeric v = as_text (spelled family.Numeric Whole v)
+meaning_in family.Telephone v = as_text (spelled family.Telephone Whole v)
+meaning_in family.Ia5 v = as_text (spelled family.Ia5 Whole v)
+meaning_in family.Ia5Exact v = as_text (spelled family.Ia5Exact Whole v)
 
 -- What a value means under a rule; nothing, where it isn't in the rule's syntax.
 abbrev pub meaning : Rule → List ℕ → Option Meaning
@@ -52,8 +57,7 @@ ValuesOfTheSyntaxMean = (r : Rule) (v : List ℕ) → is_used_on r.family r.synt
     is_in_syntax r.syntax v
 
 -- What a part of a substring assertion means under a rule: its prepared text; nothing, where it is no part of the
--- syntax's
--- values or the rule's family has no substrings rule.
+-- syntax's values or the rule's family has no substrings rule.
 abbrev pub part_meaning : Rule → Part → List ℕ → Option (List ℕ)
 part_meaning r part v = cond (has_substrings r.family && is_part_of r.syntax v) (spelled r.family part v) None
 

@@ -3,7 +3,7 @@ use Rattle.std.specs.Prelude.{ℕ, List, [], ◌∷◌, ◌++◌, Bool, true, fa
 use Rattle.unicode_normalization.specs.Forms.{nfkc}
 use Rattle.caseless.specs.Caseless.{default_case_fold}
 use Rattle.ldap_words.specs.declared.rule.Family.{Family}
-use Rattle.ldap_words.specs.declared.rule.Family.TheVariants.{Ignore, Exact, Numeric, Telephone, Ia5, Ia5Exact}
+use Rattle.ldap_words.specs.declared.rule.Family.TheVariants.{Ignore, Exact, Numeric, Telephone, Ia5, Ia5Exact, Identifier, Name, Boolean, Integer, Octet, Time}
 use Rattle.ldap_syntax.specs.declared.preparing.Part.{Part}
 use Rattle.ldap_syntax.specs.declared.preparing.Part.TheVariants.{Whole, Initial, Any, Final}
 
@@ -114,4 +114,9 @@ prepared Exact part text = spaced part (normal text)
 prepared Ia5Exact part text = spaced part (normal text)
 prepared Numeric part text = without_spaces (normal text)
 prepared Telephone part text = without_separators (folded text)
-prepared f part text = text
+prepared Identifier part text = text
+prepared Name part text = text
+prepared Boolean part text = text
+prepared Integer part text = text
+prepared Octet part text = text
+prepared Time part text = text

@@ -1,6 +1,5 @@
 -- LDIF and messages: the attributes of one line more. Shown by the lines that are the first of their type, whose types
--- differ from one
--- another: another line either adds one of these, or its value belongs to exactly one of them.
+-- differ from one another: another line either adds one of these, or its value belongs to exactly one of them.
 use Rattle.std.proofs.Common.{◌≡◌, ℕ, zero, suc, ◌+◌, ◌≤◌, ◌<◌, List, [], ◌∷◌, ◌++◌, length, take, get_or, set, Bool, true, false, ◌||◌, cond, Option, None, Some, map, filter, refl, sym, ap, ap₂, ◌∙◌, arith}
 use Rattle.std.proofs.lemmas.List.{append_assoc, map-append, append-nil, take_more, length-map}
 use Rattle.std.proofs.Math.Bool.{or-true, or-false, or_assoc}

@@ -74,8 +74,7 @@ abbrev pub wrong_at_end : ℕ → List Meant → Option ExportError
 wrong_at_end n ms = cond (nat_eq n 0) (wrong_behind ms) (Some (Code n))
 
 -- What is wrong first with the responses to a search, which are entries and then its end with code 0 (RFC 4511 4.5.2):
--- another code, a
--- message that is neither or stands behind the end, or that there is no end.
+-- another code, a message that is neither or stands behind the end, or that there is no end.
 abbrev pub first_wrong : List Meant → Option ExportError
 first_wrong [] = Some NoDoneMessage
 first_wrong (Entry r ∷ ms) = first_wrong ms

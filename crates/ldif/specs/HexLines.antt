@@ -25,7 +25,6 @@ octets_from n [] = Ok []
 octets_from n (l ∷ ls) = line_then n l (octets_from (n + 1) ls)
 
 -- The octets that the lines of a text spell, one list a line that isn't empty, or the number of the first line that is
--- no hex. Lines end
--- by LF or CRLF, and are counted from 1.
+-- no hex. Lines end by LF or CRLF, and are counted from 1.
 abbrev pub octets_of_lines : List ℕ → Result (List (List ℕ)) ℕ
 octets_of_lines text = octets_from 1 (parts_of text)

@@ -11,8 +11,7 @@ bad_octet octet column = codes "'" ++ octet_shown octet ++ codes "' at column " 
     " is no hexadecimal digit"
 
 -- What a sentence says of a line that spells no octets: its first octet that is no hexadecimal digit, with its column,
--- counted from this one; or
--- that they are odd in number.
+-- counted from this one; or that they are odd in number.
 abbrev pub hex_sentence : ℕ → List ℕ → List ℕ
 hex_sentence column [] = codes "expected two digits for each octet, found an odd number of them"
 hex_sentence column (octet ∷ line) =

@@ -37,8 +37,7 @@ abbrev pub unknown_type : SchemaModel → PlacedModel → Told
 unknown_type s r = told_or (by_code r 17) no_type (first_line (is_unknown s) r.lines)
 
 -- what makes a value one of its type: its key under the type's EQUALITY rule; its octets, where there is no rule or no
--- key
--- (RFC 4512 2.2)
+-- key (RFC 4512 2.2)
 abbrev pub key_by : SchemaModel → Option Rule → List ℕ → List ℕ
 key_by s None octets = octets
 key_by s (Some r) octets = unwrap_or (key_at s r octets) octets

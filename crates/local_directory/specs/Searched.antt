@@ -22,8 +22,7 @@ abbrev pub filled : Directory → List RecordModel → Directory
 filled d rs = directory_after d 0 (adds rs)
 
 -- What is written: the records of the text are all added, and the search of the directory after them is answered with
--- success, by these
--- entries.
+-- success, by these entries.
 pub record IsSearched (d : Directory) (text : List ℕ) (q : SearchRequestValue) (out : List ℕ) : Type 0 where
   pub records : List RecordModel
   pub read : records_of text ≡ Ok records

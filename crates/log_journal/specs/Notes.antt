@@ -1,6 +1,5 @@
 -- The notes of a replica's journal, and which strings spell them. What a note does to what is kept is defined in Told;
--- which notes a step makes,
--- in vr_state.
+-- which notes a step makes, in vr_state.
 use Rattle.std.specs.Prelude.{◌≡◌, ℕ, Bool, true, false, List, [], ◌∷◌, ◌++◌, Some}
 use Rattle.ldap_op.specs.Grammar.{IsOp}
 use Rattle.ldap_op.specs.Values.{OpValue}
@@ -9,8 +8,7 @@ use Rattle.vr_state.specs.Journaled as journaled
 use Rattle.log_journal.specs.Fields.{Fields, fields_at}
 
 -- One note: whose the journal is; a start of the replica, in a view, with a log that it may go on from or not; what a
--- step notes; how much is known
--- to be committed.
+-- step notes; how much is known to be committed.
 pub data Note : Type 0 where
   Begin : (cluster index count : ℕ) → Note
   Start : (restarts view : ℕ) (is_whole : Bool) → Note

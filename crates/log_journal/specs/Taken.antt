@@ -63,8 +63,7 @@ pub record IsKeptOfTaken (n i : ℕ) (r : State OpValue) (es : List (Event OpVal
   pub kept : journaled.IsKeptOfSome n i r taken h
 
 -- The strings that a batch adds tell, all of them, the replica as it is after the batch, and each beginning of them, as
--- it is after some first of
--- the events that were taken.
+-- it is after some first of the events that were taken.
 pub record IsTold (n i : ℕ) (r : State OpValue) (es : List (Event OpValue)) (s : State OpValue) (t : Told)
     (old new : List (List ℕ)) : Type 0 where
   pub strings : List (List ℕ)

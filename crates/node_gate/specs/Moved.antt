@@ -40,8 +40,7 @@ ExecutesDue b a =
     a.executed.records
 
 -- The node made its step at an event, executed what is committed, and a way to the other replicas took what the step
--- sends, in its order, and nothing
--- else.
+-- sends, in its order, and nothing else.
 pub record HasStepped {P D J : Type 0} (takes : P → ℕ → PeerMessage OpValue → P → Type 0) (event : Event OpValue)
     (b a : NodeValue D J) (before after : P) : Type 0 where
   pub replica : a.replica ≡ (step_at b event).state
@@ -49,8 +48,8 @@ pub record HasStepped {P D J : Type 0} (takes : P → ℕ → PeerMessage OpValu
   pub taken : TakesAll takes before (step_at b event).sends after
 
 -- The node made its step at each of these events, in their order, but at those that were left out for want of memory;
--- these are the outputs. It executed
--- what is committed, and a way to the other replicas took what the steps send, in their order, and nothing else.
+-- these are the outputs. It executed what is committed, and a way to the other replicas took what the steps send, in
+-- their order, and nothing else.
 pub record HasSteppedAll {P D J : Type 0} (takes : P → ℕ → PeerMessage OpValue → P → Type 0)
     (events : List (Event OpValue))
     (outputs : List (Result (Outputs OpValue) AllocError)) (b a : NodeValue D J) (before after : P) : Type 0 where
@@ -63,8 +62,8 @@ abbrev pub ComesBySome : {D J : Type 0} → List (Event OpValue) → (before aft
 ComesBySome events b a = MakesSome b.count b.index b.replica events a.replica
 
 -- What refused events leave of the node: for want of memory all as it was; where its device or its journal failed it
--- has stopped, executed nothing, and
--- its replica is as it is after some first of the events; a node that had stopped is as it was.
+-- has stopped, executed nothing, and its replica is as it is after some first of the events; a node that had stopped is
+-- as it was.
 abbrev pub IsLeftBy : {D J : Type 0} → List (Event OpValue) → NodeError → (before after : NodeValue D J) → Type 0
 IsLeftBy events error.NoMemory b a = a ≡ b
 IsLeftBy events (error.Store e) b a = (a.is_halted ≡ true) × (a.executed ≡ b.executed) × ComesBySome events b a

@@ -1,7 +1,6 @@
 -- When a replica moves by itself: rules of when a beat or a suspicion is due, as functions of what the replica does,
--- what it heard, and the moment.
--- Moments and times are numbers of one unit. That these rules are never needed for safety is why they may be this
--- project's own.
+-- what it heard, and the moment. Moments and times are numbers of one unit. That these rules are never needed for
+-- safety is why they may be this project's own.
 use Rattle.std.specs.Prelude.{◌≡◌, ℕ, ◌+◌, ◌-◌, ◌*◌, ◌/◌, ◌%◌, ◌^◌, ◌<◌, ◌≤◌, max, min, Bool, true, false, cond, not, ◌&&◌, ◌||◌, ◌==◌, nat_le, List, [], ◌∷◌, ◌++◌, Option, Some, None}
 use Rattle.vr_state.specs.State.{is_normal, is_changing, is_recovering}
 use Rattle.vr_state.specs.declared.words.Status.{Status}
@@ -71,8 +70,7 @@ abbrev pub limit : ClockValue → ℕ
 limit c = patience c * times_longer c.status c.given_up
 
 -- A backup suspects its primary, a replica that changes its view gives that view up, and one that recovers reminds the
--- others of the view that it has
--- stored, in case theirs is below it. A primary suspects nobody.
+-- others of the view that it has stored, in case theirs is below it. A primary suspects nobody.
 abbrev pub suspects : Status → Bool → Bool
 suspects Normal own = not own
 suspects ViewChange own = true
@@ -199,8 +197,7 @@ part_taken ViewChange c to now = cond (to == primary c) (record c { silent_since
 part_taken Recovering c to now = c
 
 -- A message came. A sign of life is one by which the primary of the own view leads it; that this primary recovers says
--- that it has lost its state, and
--- then the clock wants to be asked when the spread has passed. Nothing else is heard.
+-- that it has lost its state, and then the clock wants to be asked when the spread has passed. Nothing else is heard.
 abbrev pub heard : ClockValue → ℕ → Sign → ℕ → ClockValue
 heard c from (Leads view) now =
     cond (from == primary c && view == c.view_number) (record c { silent_since = now; lost_since = None }) c

@@ -52,8 +52,7 @@ AreSilent c [] = Unit
 AreSilent c (e ∷ es) = IsSilent c e × AreSilent (after c e) es
 
 -- A backup that hears nothing of its primary suspects it: when it is asked in time, and two suspect periods have passed
--- since the last sign of life, it does,
--- whatever else was heard meanwhile, and however often it was asked.
+-- since the last sign of life, it does, whatever else was heard meanwhile, and however often it was asked.
 abbrev pub ASilentPrimaryIsSuspected : Type 0
 ASilentPrimaryIsSuspected = (c : ClockValue) (events : List Event) (now : ℕ) → c.status ≡ Normal → is_own c ≡ false →
     AreSilent c events
@@ -79,8 +78,7 @@ AreWellSince last c [] = Unit
 AreWellSince last c (e ∷ es) = (last ≤ moment_of e) × (is_loss c e ≡ false) × AreWellSince last (after c e) es
 
 -- And while all is well it suspects nobody: within one suspect period after a sign of life of the view's primary,
--- whatever is heard meanwhile, and
--- however late it is asked.
+-- whatever is heard meanwhile, and however late it is asked.
 abbrev pub AHeardPrimaryIsTrusted : Type 0
 AHeardPrimaryIsTrusted = (c : ClockValue) (last : ℕ) (events : List Event) (now : ℕ)
     → AreWellSince last (heard c (primary c) (Leads c.view_number) last) events → last ≤ now → now < last + c.suspect

@@ -5,8 +5,7 @@ pub use Rattle.replica_clock.specs.declared.sign.Sign.{Sign}
 use Rattle.replica_clock.specs.declared.sign.Sign.TheVariants.{Leads, Lost, Other}
 
 -- The primary of a view alone sends PREPARE, COMMIT and STARTVIEW of it, and a NEWSTATE of it shows that it has begun
--- (VRR 4.1, 4.2, 5.2). A replica that
--- sends RECOVERY has lost its state (VRR 4.3).
+-- (VRR 4.1, 4.2, 5.2). A replica that sends RECOVERY has lost its state (VRR 4.3).
 abbrev pub sign_of : {P : Type 0} → PeerMessage P → Sign
 sign_of (kind.Prepare v e p k) = Leads v
 sign_of (kind.PrepareOk v p) = Other

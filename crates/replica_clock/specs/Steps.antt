@@ -53,8 +53,7 @@ AShortStepIsWell = (s : StepsValue) (made first : ℕ) (moments : List ℕ) (now
     → now + 1 ≤ first + s.suspect → 1 ≤ s.suspect → progress (busied_at made (first ∷ moments) s) now ≡ Well
 
 -- At a step that lasts, a primary sends its last beat once more, beat by beat; where it is hung it is silent, so that
--- the others go on without it.
--- Any other replica is silent: only a primary's beats are awaited.
+-- the others go on without it. Any other replica is silent: only a primary's beats are awaited.
 abbrev pub beats_at : Bool → Progress → PaceValue → ℕ → Bool
 beats_at leads Well p now = leads && is_turn p now
 beats_at leads Stuck p now = leads && is_turn p now

@@ -57,8 +57,7 @@ HasClaim octets (Err error.BadFrame) = (octets ≢ []) × ((length octets ≢ 41
 HasClaim octets (Err e) = ⊥
 
 -- What stands behind a heading says: the terms are alike, and then comes what the start says of itself; or the named
--- term is otherwise, and those
--- before it are alike; or neither digests nor a claim stand there.
+-- term is otherwise, and those before it are alike; or neither digests nor a claim stand there.
 abbrev pub MeetsSender : ℕ → List ℕ → Terms → Result Met WireError → Type 0
 MeetsSender sender behind own (Ok (met.Alike from claim)) =
     (from ≡ sender) × (take 96 behind ≡ terms_octets own) × HasClaim (drop 96 behind) (Ok claim)
@@ -76,8 +75,7 @@ pub record IsGreeting (cluster sender : ℕ) (frame : List ℕ) (own : Terms) (m
   pub behind : MeetsSender sender (drop 13 frame) own (Ok met)
 
 -- Why a frame is no greeting of this cluster: it is too short for any, or no greeting begins so, or it isn't as long as
--- its heading says, or what stands
--- behind the digests is no claim.
+-- its heading says, or what stands behind the digests is no claim.
 abbrev pub IsNoGreeting : ℕ → List ℕ → Type 0
 IsNoGreeting cluster frame = (length (drop 13 frame) ≤ 95)
     ⊎ ((other : ℕ) → IsForeign other (take 13 frame))
@@ -85,8 +83,7 @@ IsNoGreeting cluster frame = (length (drop 13 frame) ≤ 95)
     ⊎ HasClaim (drop 96 (drop 13 frame)) (Err error.BadFrame)
 
 -- What a frame says: it is a greeting of a start of a replica with these terms; or one of this cluster with the named
--- term otherwise, and those before it
--- alike; or no greeting, or none of this cluster.
+-- term otherwise, and those before it alike; or no greeting, or none of this cluster.
 abbrev pub HasMet : ℕ → List ℕ → Terms → Result Met WireError → Type 0
 HasMet cluster frame own (Ok (met.Alike sender claim)) = IsGreeting cluster sender frame own (met.Alike sender claim)
 HasMet cluster frame own (Ok (met.Other sender term)) = IsGreeting cluster sender frame own (met.Other sender term)

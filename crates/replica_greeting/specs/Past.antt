@@ -55,8 +55,8 @@ abbrev pub is_same_start : Past → Claim → Bool
 is_same_start p c = p.start == c.start && p.mark == c.mark
 
 -- What a start doesn't remember of what was said: its number isn't after the last one's, its view is below one that was
--- named, or its log doesn't go
--- as far as one that was named, where it goes on from its log; nothing, where the same start greets again.
+-- named, or its log doesn't go as far as one that was named, where it goes on from its log; nothing, where the same
+-- start greets again.
 abbrev pub judged : Past → Claim → Option Forgotten
 judged p c =
     cond (is_same_start p c) None

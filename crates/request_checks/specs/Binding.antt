@@ -37,8 +37,8 @@ bound_by s manager manager_password name (simple password) =
 bound_by s manager manager_password name (sasl credentials) = record { identity = Anonymous; code = 7 }
 
 -- What a bind comes to where the manager has this name and password, who is bound and the result code: protocolError
--- (2) for a version
--- other than 3, else by its authentication (RFC 4511 4.2). A bind that fails leaves the session anonymous (RFC 4513 4).
+-- (2) for a version other than 3, else by its authentication (RFC 4511 4.2). A bind that fails leaves the session
+-- anonymous (RFC 4513 4).
 abbrev pub bound : SchemaModel → List RdnModel → List ℕ → BindRequestValue → Bound
 bound s manager manager_password b =
     cond (int_eq b.version (pos 3)) (bound_by s manager manager_password b.name b.authentication)

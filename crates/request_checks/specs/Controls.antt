@@ -72,7 +72,7 @@ named_in Update controls = with_number (number_named controls) (request_named co
 named_in Other controls = Ok (record { number = None; request = None })
 
 -- What the controls of a request come to: unavailableCriticalExtension (12) for a critical one without meaning there,
--- else protocolError (2)
--- for one with a meaning that is repeated or can't be read, else what they name. One without meaning is ignored.
+-- else protocolError (2) for one with a meaning that is repeated or can't be read, else what they name. One without
+-- meaning is ignored.
 abbrev pub judged : Kind → List ControlValue → Result Named ℕ
 judged kind controls = cond (is_unavailable kind controls) (Err 12) (named_in kind controls)

@@ -1,6 +1,5 @@
 -- A description between its outer parentheses (RFC 4512 1.4): octets come in, the parts between its spaces go out, and
--- the first octet that
--- has no place in it.
+-- the first octet that has no place in it.
 use Rattle.std.specs.Prelude.{◌++◌, ◌||◌, ◌&&◌, ℕ, ◌+◌, List, [], ◌∷◌, Bool, true, false, not, nat_eq, cond, unwrap_or, Option, None, Some}
 use Rattle.schema_faults.specs.declared.pieces.Scan.{Scan}
 use Rattle.schema_faults.specs.declared.pieces.Scan.TheVariants as scan

@@ -1,6 +1,5 @@
 -- What a description of a schema has that a description before it has, or has twice (RFC 4512 1.4, 4.1): descriptions
--- come in, a sentence
--- goes out.
+-- come in, a sentence goes out.
 use Rattle.std.specs.Prelude.{◌++◌, ℕ, ◌+◌, List, [], ◌∷◌, nat_eq, nat_lt, cond, codes, decimal, map, slice_get, option_map, Option, None, Some}
 use Rattle.std.specs.Option.{option_and_then, option_or}
 use Rattle.std.specs.Char.{to_ascii_lowercase}

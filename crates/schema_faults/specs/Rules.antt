@@ -1,6 +1,5 @@
 -- What doesn't fit in the rules and the syntax of a type (RFC 4512 2.5.1): a description and what is in effect for it
--- come in, a sentence
--- goes out.
+-- come in, a sentence goes out.
 use Rattle.std.specs.Prelude.{◌++◌, ℕ, List, [], cond, codes, Option, None, Some}
 use Rattle.schema_meaning.specs.Inheriting.{is_mixed}
 use Rattle.schema_meaning.specs.declared.inheriting.Effect.{Effect}

@@ -1,6 +1,5 @@
 -- What is wrong with the line of a schema's text that is refused (RFC 4512 4.1): the text, the refusal and the line's
--- number come in, a
--- sentence goes out.
+-- number come in, a sentence goes out.
 use Rattle.std.specs.Prelude.{◌≡◌, ◌++◌, ℕ, ◌-◌, List, Bool, true, false, nat_eq, codes, unwrap_or, Option, None, Some}
 use Rattle.schema_meaning.specs.Inheriting.{effect_of}
 use Rattle.schema_meaning.specs.schema_text.Descriptions.{DescriptionModel, first_text_at}

@@ -14,8 +14,7 @@ use Rattle.schema_reader.specs.Reading.{is_type_looping, is_class_looping, schem
 use Rattle.schema_reader.specs.declared.error.SchemaError.TheVariants.{LoopInSup}
 
 -- the rules and the syntax in effect for a type: its own, and what it lacks is inherited from the type that its SUP
--- names, if it has one
--- (RFC 4512 2.5.1)
+-- names, if it has one (RFC 4512 2.5.1)
 pub data IsInEffect (types : List DescriptionModel) : ℕ → Effect → Type 0 where
   has_no_superior : {t : ℕ} (d : DescriptionModel) → slice_get types t ≡ Some d → superior_text d ≡ None →
       IsInEffect types t (own d)
@@ -100,9 +99,8 @@ MissingStandOnce = (text : List ℕ) (s : SchemaModel) → schema_of_text text �
     IsDistinct nat_eq (missing_superclasses s cs)
 
 -- They come in turn: behind these classes, for each of these and of the missing ones in their order, its direct
--- superclasses in the order
--- written, each where it comes first. So a direct superclass of an earlier one comes before one that only later ones
--- have.
+-- superclasses in the order written, each where it comes first. So a direct superclass of an earlier one comes before
+-- one that only later ones have.
 abbrev pub MissingComeInTurn : Type 0
 MissingComeInTurn = (text : List ℕ) (s : SchemaModel) → schema_of_text text ≡ Ok s → (cs : List ℕ)
     → cs ++ missing_superclasses s cs ≡ with_missing cs (flat_map (direct_superclasses s.classes)

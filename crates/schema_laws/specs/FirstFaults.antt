@@ -15,8 +15,7 @@ pub record IsFirst (is_so : ℕ → Type 0) (line : ℕ) : Type 0 where
   pub is_first : (n : ℕ) → is_so n → line ≤ n
 
 -- a line is no description, the first one that is none; or its type or class has a name twice, or a name or an object
--- identifier of an
--- earlier one; or its type has rules of two families, or no syntax that its rules are used on
+-- identifier of an earlier one; or its type has rules of two families, or no syntax that its rules are used on
 pub data IsBadIn (text : SchemaTextModel) (line : ℕ) : Type 0 where
   is_no_description : text.bad ≡ Some line → IsBadIn text line
   type_repeats : (t : ℕ) (d : DescriptionModel) → slice_get text.types t ≡ Some d → d.line ≡ line →

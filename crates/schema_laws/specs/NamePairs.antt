@@ -1,6 +1,5 @@
 -- Items on the pairs of names that were read: RFC 4511 4.5.1.7.7. Updates, names and a schema are looked at; a pair's
--- key is not spoken of here, though
--- the item on a pair is told by it.
+-- key is not spoken of here, though the item on a pair is told by it.
 use Rattle.std.specs.Prelude.{ℕ, List, [], ◌∷◌, map, filter, Option, Some, slice_get, ◌≡◌}
 use Rattle.ldap_match.specs.ldap_schema.Schema.{SchemaModel}
 use Rattle.ldap_match.specs.Truth.{disjunction}

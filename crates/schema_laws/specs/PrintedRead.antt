@@ -10,8 +10,7 @@ use Rattle.ldap_dn.specs.Texts.{keys_from, name_of_text}
 use Rattle.ldap_dn.specs.Printed.{type_name, printed_name}
 
 -- the octets of a type's name and of an object identifier: letters, digits, hyphen and full stop (RFC 4512 1.4,
--- keystring and
--- numericoid)
+-- keystring and numericoid)
 abbrev pub is_name_octet : ℕ → Bool
 is_name_octet c = is_key_octet c || nat_eq c 46
 

@@ -22,8 +22,7 @@ IsNoneOr r None = Unit {0}
 IsNoneOr r (Some o) = o ≡ r
 
 -- The rules of a type, own or inherited (RFC 4512 2.5.1): it has an EQUALITY rule, and an ORDERING and a SUBSTR rule,
--- if any, of the same
--- family on the same syntax; they are the ones in effect.
+-- if any, of the same family on the same syntax; they are the ones in effect.
 pub record IsOfOneFamily (t : TypeModel) : Type 0 where
   pub rule : Rule
   pub equality : t.equality ≡ Some rule

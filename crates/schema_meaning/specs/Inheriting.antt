@@ -103,8 +103,7 @@ kept true f = f
 kept false f = None
 
 -- what is in effect for a type under one with these rules: its own, and else the other's; the ordering and the
--- substrings rule of
--- the other are left out where the type has an EQUALITY of another family (RFC 4512 2.5.1)
+-- substrings rule of the other are left out where the type has an EQUALITY of another family (RFC 4512 2.5.1)
 abbrev pub inherited : Effect → Effect → Effect
 inherited above own =
     let keeps = agree own.equality (family_of above) in

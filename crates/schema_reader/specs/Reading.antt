@@ -90,8 +90,7 @@ abbrev pub unknown_of : SchemaTextModel → SchemaModel → Option ℕ
 unknown_of text s = earlier (unknown_line text) (missing_line text.behind s)
 
 -- The first thing that is wrong: a line that is no description or bad together with others, else one that names what is
--- not known,
--- else one with a loop, else one without EQUALITY.
+-- not known, else one with a loop, else one without EQUALITY.
 abbrev pub fault_of : SchemaTextModel → SchemaModel → Option SchemaError
 fault_of text s =
     refused_at (bad_line text) BadDescription (refused_at (unknown_of text s) UnknownName (loop_fault text s))

@@ -124,8 +124,7 @@ inside [] = None
 inside (c ∷ cs) = cond (nat_eq c 40 && ends_with 41 cs) (Some (take (length cs - 1) cs)) None
 
 -- The description that octets are, in a line of this number; none, where they are none (RFC 4512 4.1.1,
--- ObjectClassDescription;
--- 4.1.2, AttributeTypeDescription).
+-- ObjectClassDescription; 4.1.2, AttributeTypeDescription).
 abbrev pub description_of : ℕ → Section → List ℕ → Option DescriptionModel
 description_of line s octets =
     option_and_then (λ body. option_and_then (λ ts. of_pieces line s (pieces false ts)) (tokens_of body))

@@ -10,8 +10,7 @@ use Rattle.schema_text.specs.declared.keyword.Section.{Section}
 use Rattle.schema_text.specs.declared.keyword.Keyword.{Keyword}
 
 -- tokens are pieces with one SPACE or more between two of them, and SPACEs at will at both ends; no piece is empty or
--- has a SPACE
--- outside quotes (RFC 4512 1.4, SP and WSP)
+-- has a SPACE outside quotes (RFC 4512 1.4, SP and WSP)
 pub data IsSpaced (b : Bool) : List Token → List (List Token) → Type 0 where
   nothing : IsSpaced b [] []
   a_space : {ts : List Token} {ps : List (List Token)} (t : Token) → is_bare b 32 t ≡ true → IsSpaced b ts ps →
@@ -30,8 +29,7 @@ pub data AreFields (s : Section) : List (List Token) → List FieldModel → Typ
       AreFields s ps fs → AreFields s (p ∷ q ∷ ps) (record { keyword = k; texts = xs } ∷ fs)
 
 -- Octets are a description: between parentheses a numericoid and fields, with SPACEs between them, each field in its
--- place
--- (RFC 4512 4.1.1, ObjectClassDescription; 4.1.2, AttributeTypeDescription).
+-- place (RFC 4512 4.1.1, ObjectClassDescription; 4.1.2, AttributeTypeDescription).
 pub record IsDescription (s : Section) (octets : List ℕ) (d : DescriptionModel) : Type 0 where
   pub body : List ℕ
   pub is_enclosed : octets ≡ 40 ∷ body ++ 41 ∷ []

@@ -9,9 +9,8 @@ abbrev pub is_mark : ℕ → Bool
 is_mark c = nat_eq c 40 || nat_eq c 41 || nat_eq c 39
 
 -- octets are tokens, inside a list or not, and inside quotes or not: a list begins outside lists and ends before
--- another begins;
--- between quotes stand all octets but the quote and the backslash, which are spelled `\27` and `\5C` (RFC 4512 1.4,
--- dstring, QQ and QS)
+-- another begins; between quotes stand all octets but the quote and the backslash, which are spelled `\27` and `\5C`
+-- (RFC 4512 1.4, dstring, QQ and QS)
 pub data IsSpelled : Bool → Bool → List ℕ → List Token → Type 0 where
   ends : IsSpelled false false [] []
   stands : {cs : List ℕ} {ts : List Token} (b : Bool) (c : ℕ) → is_mark c ≡ false → IsSpelled b false cs ts →

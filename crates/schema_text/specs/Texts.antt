@@ -46,8 +46,7 @@ abbrev pub is_headed : Section → List ℕ → Bool
 is_headed s line = is_same_word (heading_of s) (take (length (heading_of s)) line)
 
 -- what a text has: the descriptions of types and of classes in the order written, the first line that is no
--- description, and the
--- number behind the last line
+-- description, and the number behind the last line
 pub record SchemaTextModel : Type 0 where
   pub types : List DescriptionModel
   pub classes : List DescriptionModel

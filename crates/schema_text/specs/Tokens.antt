@@ -18,8 +18,7 @@ standing false = Outside
 standing true = Inside
 
 -- what an octet does outside a list, inside one, inside a quoted text, behind a backslash of it, and behind a backslash
--- and a
--- digit: `\27` is a quote, `\5C` a backslash (RFC 4512 1.4, dstring)
+-- and a digit: `\27` is a quote, `\5C` a backslash (RFC 4512 1.4, dstring)
 abbrev pub step : Scan → ℕ → Step
 step Outside c =
     cond (nat_eq c 40) (Gives Open Inside)

@@ -37,8 +37,7 @@ has_index_for ix (at_most a) u = (kinds_of ix u).ordering
 has_index_for ix (substrings p) u = false
 
 -- whether the indexes of a type decide an item on its own attributes: by the index that the item asks for, or by a
--- presence index where the
--- type can't answer the item
+-- presence index where the type can't answer the item
 abbrev pub is_decided_on : SchemaModel → List Kinds → Item → ℕ → Bool
 is_decided_on s ix asked u = cond (is_answerable s asked u) (has_index_for ix asked u) (kinds_of ix u).presence
 

@@ -58,8 +58,7 @@ has_runs_by s ix None u p e = false
 has_runs_by s ix (Some r) u p e = has_prepared_runs s ix r u (prepared_parts r p) e
 
 -- Whether an entry holds the runs of three octets that an item asks of a type, as far as there is a substrings index
--- for the type; of other items
--- each entry does, if the type can answer the item.
+-- for the type; of other items each entry does, if the type can answer the item.
 abbrev pub has_runs_on : SchemaModel → List Kinds → Item → ℕ → List AttributeModel → Bool
 has_runs_on s ix present u e = true
 has_runs_on s ix (equal a) u e = is_answerable s (equal a) u

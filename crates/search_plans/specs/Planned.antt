@@ -18,8 +18,7 @@ abbrev pub is_match : SchemaModel → Tree → List RdnModel → List KeyedAttri
 is_match s t name e = is_true (filter_value s t name (attributes_of e))
 
 -- Over the posting lists of any entries that the schema keys, and any scope: of each entry in scope, of any name, what
--- this says of the plan's
--- set, the name and the entry.
+-- this says of the plan's set, the name and the entry.
 abbrev pub OfEach : SchemaModel → List Kinds → Plan → (Bool → List RdnModel → List KeyedAttribute → Type 0) → Type 0
 OfEach s ix p says = (es : List Indexed) (scope : List ℕ) (n : ℕ) (name : List RdnModel) (e : List KeyedAttribute)
     → AreNumbered es → HasEntry es n e → IsKeyedBy s e → has_number n scope ≡ true →
@@ -43,10 +42,9 @@ DecidedPartsMatch s ix (negation t) name e = Unit {0}
 DecidedPartsMatch s ix (item i) name e = Unit {0}
 
 -- Two plans are planned for a filter under a schema and an index choice: what must is True, and what is True may; where
--- the schema and the index
--- choice decide the filter, both are its true set; on what may be True of an `and`, each part that they decide is True;
--- and what may has values
--- that hold each run of three octets that the filter's substrings items ask for.
+-- the schema and the index choice decide the filter, both are its true set; on what may be True of an `and`, each part
+-- that they decide is True; and what may has values that hold each run of three octets that the filter's substrings
+-- items ask for.
 pub record ArePlansFor (s : SchemaModel) (ix : List Kinds) (t : Tree) (must may : Plan) : Type 0 where
   pub sound : OfEach s ix must (λ is_there name e. is_there ≡ true → is_match s t name e ≡ true)
   pub complete : OfEach s ix may (λ is_there name e. is_match s t name e ≡ true → is_there ≡ true)

@@ -22,8 +22,7 @@ abbrev pub Covers : (ℕ → Bool) → List ℕ → List ℕ → Type 0
 Covers may scope candidates = (n : ℕ) → has_number n scope ≡ true → may n ≡ true → has_number n candidates ≡ true
 
 -- The candidates that are in scope and pass are the numbers of the scope that pass, in order; for each test that only
--- what may be
--- found passes.
+-- what may be found passes.
 abbrev pub Draws : (ℕ → Bool) → List ℕ → List ℕ → Type 0
 Draws may scope candidates = (p : ℕ → Bool) → ((n : ℕ) → has_number n scope ≡ true → p n ≡ true → may n ≡ true)
     → filter (λ n. has_number n scope && p n) candidates ≡ filter p scope

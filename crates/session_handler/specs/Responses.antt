@@ -31,8 +31,8 @@ abbrev pub ended_by : Answer → ReplyModel
 ended_by a = record { code = a.code; matched = a.matched }
 
 -- The responses to a search whose request named a number, or none: its entries and then the done message, with the
--- number reached; busy (51)
--- where the number isn't reached, unavailable (52) where there is nothing to read any more, other (80) without memory.
+-- number reached; busy (51) where the number isn't reached, unavailable (52) where there is nothing to read any more,
+-- other (80) without memory.
 abbrev pub search_messages : ℕ → Option ℕ → Looked Answer → List MessageValue
 search_messages id asked (found at a) = entry_messages id a.entries ++ reply_message id Search asked at
     (ended_by a) ∷ []

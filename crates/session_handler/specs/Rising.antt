@@ -61,9 +61,8 @@ Rises seen [] = Unit {0}
 Rises seen (x ∷ xs) = GoesFrom seen x × Rises (seen_with seen x) xs
 
 -- A session keeps the greatest number that it has seen, of its updates and of its reads. Where each read is answered at
--- the number that it
--- names or a later one, no read is answered before an earlier read or update of the session, whichever directories
--- answer them.
+-- the number that it names or a later one, no read is answered before an earlier read or update of the session,
+-- whichever directories answer them.
 abbrev pub ReadsRise : Type 0 → Type 0
 ReadsRise T = (c : ConfigValue) (s t : State) (ms : List MessageValue) (xs : List (Exchange T))
     (rs : List MessageValue) (next : Next) →

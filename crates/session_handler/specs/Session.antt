@@ -143,8 +143,7 @@ abbrev pub bound_reaction : State → ℕ → Bound → Reaction
 bound_reaction s id b = says (record s { identity = b.identity }) (code_message id Bind b.code)
 
 -- the client and the number of an update: those that its control names, or the session's own client and its next
--- number; other (80), once
--- those are used up
+-- number; other (80), once those are used up
 abbrev pub update_as : ConfigValue → State → Pending → OpValue → Option (ℕ × ℕ) → Asked
 update_as c s p u (Some named) = an_update (named_client named.0) named.1 u
 update_as c s p u None = cond (nat_lt s.requests greatest) (an_update c.client (s.requests + 1) u) (refusal s p 80)
@@ -230,8 +229,7 @@ abbrev pub asked_state : State → Named → State
 asked_state s named = record s { requests = requests_after s.requests named.request }
 
 -- What an update comes to: its reply, with its number where the request named one; unwillingToPerform (53) where the
--- client has made a later
--- request, other (80) where it isn't known what became of it, and without memory.
+-- client has made a later request, other (80) where it isn't known what became of it, and without memory.
 abbrev pub after_update : State → ℕ → Answering → Named → EndedValue → Reaction
 after_update s id answering named (done number reply) =
     says (reading_from s number) (done_message id answering named.number number reply)

@@ -13,16 +13,14 @@ use Rattle.request_checks.specs.declared.fault.AnswerError.{AnswerError}
 use Rattle.request_checks.specs.declared.fault.AnswerError.TheVariants.{TooLong}
 
 -- These responses are answered, each in its one written form, and the session goes on or ends as said. TooLong only
--- where one of them is too
--- long; want of memory is the only other error.
+-- where one of them is too long; want of memory is the only other error.
 pub record AreSaid (responses : List MessageValue) (next : Next) (result : Result Answered AnswerError) : Type 0 where
   pub written : IfOk result (λ a. a.responses ≡ map message_bytes responses)
   pub next_is : IfOk result (λ a. a.next ≡ next)
   pub too_long : IsErrOf result TooLong → HasTooLong responses
 
 -- A reaction is done: its responses are answered, and its state is the one after it. An error leaves its state too, or
--- at the worst the same
--- with nobody bound.
+-- at the worst the same with nobody bound.
 pub record IsDone (a : Reaction) (after : State) (result : Result Answered AnswerError) : Type 0 where
   pub state : OnOk result (after ≡ a.state)
   pub left : OnErr result ((after ≡ a.state) ⊎ (after ≡ record a.state { identity = Anonymous }))

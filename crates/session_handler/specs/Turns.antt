@@ -14,8 +14,7 @@ use Rattle.request_checks.specs.declared.requests.Answering.{Answering}
 use Rattle.session_handler.specs.declared.state.State.{State}
 
 -- What a request of this kind comes to, along what is asked for it: nothing, since it has its reaction, or one
--- question, whose answer gives
--- the reaction.
+-- question, whose answer gives the reaction.
 pub data Outcome {T : Type 0} (s : State) (id : ℕ) (answering : Answering) (named : Named) (question : Asked) :
     List (Exchange T) → Reaction → Type 0 where
   reacts : {a : Reaction} → question ≡ nothing a → Outcome s id answering named question [] a
@@ -28,8 +27,7 @@ pub data Outcome {T : Type 0} (s : State) (id : ℕ) (answering : Answering) (na
       id answering named ended)
 
 -- A request that has passed its controls is answered: the role is asked, and what is told with it is learned before
--- anything else is asked;
--- then at most one question.
+-- anything else is asked; then at most one question.
 pub data Inquiry {T : Type 0} (c : ConfigValue) (s : State) (id : ℕ) (r : RequestValue) (named : Named) :
     List (Exchange T) → Reaction → Type 0 where
   asks : {xs : List (Exchange T)} {a : Reaction} (role : RoleValue) (told : T) → Outcome s id (answering_of r) named
@@ -55,8 +53,7 @@ RoleIsFirst T = (c : ConfigValue) (s : State) (m : MessageValue) (xs : List (Exc
     Turn c s m xs a → BeginsWithRole xs
 
 -- A session reads these messages and comes to this state, along this talk: with these responses in all, and this end,
--- that of the messages
--- (GoesOn), an unbind, or what is no request. What comes after an end is not read.
+-- that of the messages (GoesOn), an unbind, or what is no request. What comes after an end is not read.
 pub data Session {T : Type 0} (c : ConfigValue) : State → List MessageValue → List (Exchange T) → State →
     List MessageValue → Next → Type 0 where
   ends : {s : State} → Session c s [] [] s [] GoesOn

@@ -1,6 +1,5 @@
 -- An update that has waited for too long, and a search for which there is no room. A conversation before and after
--- comes in; that the message is
--- answered as where no primary is known, or as one that found no memory, comes out.
+-- comes in; that the message is answered as where no primary is known, or as one that found no memory, comes out.
 use Rattle.client_link.specs.session_handler.Session.{ConfigValue}
 use Rattle.client_link.specs.ldap_session.View.{ConversationValue}
 use Rattle.session_pool.specs.Attending.{Answers}

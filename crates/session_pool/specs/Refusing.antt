@@ -1,6 +1,5 @@
 -- Directories that answer in place of a replica's: one that finds out where updates are made, and one that has no
--- memory for a search. A question and
--- its answer come in.
+-- memory for a search. A question and its answer come in.
 use Rattle.std.specs.Prelude.{◌≡◌}
 use Rattle.client_link.specs.directory_api.Talk.{Exchange, asked_role, learned, searched, compared, updated, changing, no_memory}
 

@@ -24,8 +24,7 @@ pub record HearsOn (v w : ConversationValue) : Type 0 where
   pub heard : HearsSome None None v buffer w
 
 -- So many sittings in a row. A further one follows only where all is said and no whole message is left over, and then
--- octets are heard: a session
--- with messages left over goes to the back of the queue.
+-- octets are heard: a session with messages left over goes to the back of the queue.
 pub data InARow {D T : Type 0} (allows : D → Exchange T → D → Type 0) (c : ConfigValue) : ConversationValue →
     ConversationValue → D → D → ℕ → Type 0 where
   sits : {v w : ConversationValue} {d e : D} → Sitting allows c v w d e → InARow allows c v w d e 1

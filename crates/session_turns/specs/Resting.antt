@@ -1,6 +1,5 @@
 -- Which seats rest, and whether one leads: waits for sockets, or looks at them. What is known before comes in; what a
--- seat does, whom it calls, and
--- what is known then comes out.
+-- seat does, whom it calls, and what is known then comes out.
 use Rattle.std.specs.Prelude.{◌≡◌, ◌+◌, ◌-◌, ◌==◌, ◌||◌, ℕ, Bool, true, false, not, cond, nat_le, min, List, [], ◌∷◌}
 use Rattle.session_turns.specs.declared.resting.Was.{Was}
 use Rattle.session_turns.specs.declared.resting.Was.TheVariants.{Serving, Resting, Leading}
@@ -60,8 +59,7 @@ left Resting l = record l { idle = l.idle - 1; called = l.called - 1 }
 left Leading l = laid_down l
 
 -- What a free seat does where so many sessions are ready: it leads where none does, and nothing is ready or 16 sessions
--- were taken since the last
--- look; it rests where another leads, and nothing is ready; else it serves.
+-- were taken since the last look; it rests where another leads, and nothing is ready; else it serves.
 abbrev pub choice : Bool → ℕ → ℕ → Act
 choice is_led unlooked ready = cond is_led (cond (ready == 0) Rest Serve) (cond (ready == 0 || nat_le 16 unlooked)
     Leads Serve)

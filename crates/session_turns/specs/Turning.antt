@@ -156,8 +156,7 @@ abbrev pub up_to_in_all : ℕ → Queues → ℕ
 up_to_in_all turn q = up_to turn q.first + up_to turn q.second + up_to turn q.third + up_to turn q.last
 
 -- Whatever was lined up and taken before, and is then: one that is the nth of all that wait, itself counted, and still
--- waits after some takes, waits
--- after fewer than 8 n of them. Turns have numbers of 64 bits.
+-- waits after some takes, waits after fewer than 8 n of them. Turns have numbers of 64 bits.
 abbrev pub EachIsTakenInTime : Type 0
 EachIsTakenInTime =
     (room : ℕ) (before after : List TurnEvent) (class : Class) (turn : ℕ) → turn < 18446744073709551615 →

@@ -50,8 +50,7 @@ abbrev pub most_fields : ℕ
 most_fields = 64
 
 -- What octets are that have come of a request: a whole head that asks for a page in some way; or no whole head, though
--- octets may
--- follow that make one; or no head, whatever follows, or one of too many fields.
+-- octets may follow that make one; or no head, whatever follows, or one of too many fields.
 abbrev pub TellsHead : List ℕ → Head → Type 0
 TellsHead octets (head.Asks how asked) =
     (h : RequestHead) × (rest : List ℕ) × ReadsRequest octets h rest × IsMethod h.method how

@@ -8,8 +8,7 @@ use Rattle.text_faults.specs.declared.filters.Place.TheVariants as place
 use Rattle.text_faults.specs.Words.{octet_shown}
 
 -- the place behind an octet, which is of this index: '&' and '|' begin a row of filters, '!' a negation, all else an
--- item,
--- which ends at its ')'
+-- item, which ends at its ')'
 abbrev pub place_after : Place → ℕ → ℕ → Place
 place_after place.Opening index octet = place.Inside
 place_after place.Inside index octet =

@@ -6,8 +6,7 @@ use Rattle.vr_state.specs.Step.{Event, step}
 use Rattle.vr_state.specs.StepLaw.{brings_tail}
 
 -- One note: a view was entered; a record was appended; a record waits to be adopted; a log was adopted: its first base
--- records stay, and those
--- that wait come behind them. k is how much is known to be committed.
+-- records stay, and those that wait come behind them. k is how much is known to be committed.
 pub data Note (P : Type 0) : Type 0 where
   Enter : (view : ℕ) → Note P
   Record : (k : ℕ) (e : LogEntry P) → Note P
@@ -96,8 +95,7 @@ pub record IsKeptOfSome {P : Type 0} (n i : ℕ) (r : State P) (xs : List (Event
   pub kept : IsKeptOf h (after_events n i r (take count xs))
 
 -- A batch of events is journaled: all its notes keep the replica as it is after all of them, and some first of its
--- notes as it is after some first
--- of them.
+-- notes as it is after some first of them.
 abbrev pub BatchesAreJournaled : Type 0 → Type 0
 BatchesAreJournaled P = (n i : ℕ) (r : State P) (xs : List (Event P × ℕ)) → StayAlike n i r xs → (h : Kept P) →
     IsKeptOf h r → h.staged ≡ [] →

@@ -109,8 +109,7 @@ start_view_repeated : printed 3 (start 3) (Do (Suspect 1) ∷ DeliverAll (2 ∷ 
 start_view_repeated = refl
 
 -- A replica stores view 1 and crashes before anybody hears of it. Its suspicion says it again, with two answers below
--- that view and not with one; so the
--- others leave view 0, and it recovers in view 2.
+-- that view and not with one; so the others leave view 0, and it recovers in view 2.
 stored_view_unheard : printed 3 (start 3) (ask 0 7 1 ∷ DeliverAll (2 ∷ 3 ∷ []) ∷ Do (Suspect 1) ∷ Do (Crash 1) ∷ Do
     (Recover 1 5) ∷ DeliverAll (6 ∷ 7 ∷ 8 ∷ []) ∷ Do (Suspect 1) ∷ DeliverAll (9 ∷ []) ∷ Look 1 ∷ Do
     (Suspect 1) ∷ Look 1 ∷ DeliverAll (10 ∷ 11 ∷ []) ∷ Look 0 ∷ Do (Suspect 2) ∷ DeliverAll (18 ∷ 21 ∷ 22 ∷ []) ∷ Do
@@ -137,8 +136,7 @@ power_cut_in_a_change : printed 3 (start 3) (ask 0 7 1 ∷ DeliverAll (1 ∷ 3 �
 power_cut_in_a_change = refl
 
 -- A power cut of all three, and one journal is lost: that replica recovers from the two that go on. It has no journal
--- while it recovers, so a crash then
--- leaves nothing to go on from.
+-- while it recovers, so a crash then leaves nothing to go on from.
 one_journal_lost : printed 3 (start 3) (ask 0 7 1 ∷ DeliverAll (1 ∷ 3 ∷ []) ∷ Do (Crash 0) ∷ Do (Crash 1) ∷ Do
     (Crash 2) ∷ Do (Resume 0 1) ∷ Do (Resume 1 0) ∷ Do (Recover 2 5) ∷ Do (Crash 2) ∷ Do (Resume 2 9) ∷ Look 2 ∷ Do
     (Recover 2 6) ∷ DeliverAll (6 ∷ 7 ∷ 8 ∷ 9 ∷ []) ∷ Look 0 ∷ Look 2 ∷ [])

@@ -104,8 +104,7 @@ AreApart i [] = Unit {0}
 AreApart i (e ∷ es) = IsApart i e × AreApart i es
 
 -- A replica that takes part, crashes and goes on from its journal has its view, its last normal view and its log as
--- they were, whatever
--- happened to the others meanwhile.
+-- they were, whatever happened to the others meanwhile.
 abbrev pub JournalsKeep : Type 0 → Type 0
 JournalsKeep P = (n : ℕ) → IsSize n → (es more : List (WorldEvent P)) (i k : ℕ) (r : State P) →
     i < n → (after n es).replicas i ≡ Some r → is_recovering r.status ≡ false → AreApart i more →

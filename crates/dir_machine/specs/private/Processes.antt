@@ -92,8 +92,7 @@ pub record Took (events : List (Event OpValue)) (old new : MemoryNode)
   pub placed : old.is_halted ≡ false → HeldPlaced old.device → IsPlaced new.device
 
 -- A node's process ended inside a call: the node took some first of these events, the pair's device holds the pair from
--- before them or from after, and
--- the journal, where there is one, tells the replica after them.
+-- before them or from after, and the journal, where there is one, tells the replica after them.
 pub record EndedInside (events : List (Event OpValue)) (old : MemoryNode) (left : Left) : Type 0 where
   pub replica : State OpValue
   pub steps : MakesSome old.count old.index old.replica events replica

@@ -32,8 +32,7 @@ use Rattle.dir_machine.specs.declared.running.Running.{Running}
 use Rattle.dir_machine.specs.private.Processes.{IsNew, IsPlaced, KeepsIt, LogsIt, MemoryNode}
 
 -- Laws of the crates below: strings of a journal tell one thing; a replica that isn't normal after a step recovers if
--- it did before; a client table's
--- place is that of the client's record.
+-- it did before; a client table's place is that of the client's record.
 pub record Laws : Type 0 where
   pub one : OneIsTold
   pub last : LastIsKept OpValue

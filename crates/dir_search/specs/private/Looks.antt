@@ -1,6 +1,5 @@
 -- How many entries a search evaluates its bound filter on, by their numbers: what contracts that aren't public say of
--- it.
--- What public contracts say is in specs/Looks.
+-- it. What public contracts say is in specs/Looks.
 use Rattle.std.specs.Prelude.{◌≡◌, ◌≤◌, ℕ, Bool, true, false, List, length, filter, nat_le, Option, None, Some, is_some, Vec}
 use Rattle.std.specs.Global.{Global}
 use Rattle.std.specs.List.{AllByRecursion}
@@ -51,8 +50,8 @@ abbrev pub AreHere : List Entered → List ℕ → Type 0
 AreHere d ks = AllByRecursion (λ n. is_some (entry_at n d) ≡ true) ks
 
 -- A bound filter was evaluated on few of the entries of these numbers: on none, where the indexes decide it; for an
--- `and`, on at most as many as
--- each part that they decide is True on; and on at most as many as hold the runs of three octets that it asks for.
+-- `and`, on at most as many as each part that they decide is True on; and on at most as many as hold the runs of three
+-- octets that it asks for.
 pub record IsFew (ix : List Kinds) (b : BoundFilter) (d : List Entered) (ks : List ℕ) (tests : ℕ) : Type 0 where
   pub within : tests ≤ length ks
   pub decided : is_decided ix b ≡ true → tests ≡ 0
@@ -61,8 +60,8 @@ pub record IsFew (ix : List Kinds) (b : BoundFilter) (d : List Entered) (ks : Li
   pub runs : tests ≤ length (filter (λ n. has_runs_on ix b (entry_at n d)) ks)
 
 -- Which of these numbers are left open: none, where the indexes decide the filter; for an `and`, only those on whose
--- entry each part that they
--- decide is True; and only those whose entry holds the runs of three octets that the filter asks for.
+-- entry each part that they decide is True; and only those whose entry holds the runs of three octets that the filter
+-- asks for.
 pub record LeavesFew (open_at : ℕ → Bool) (ix : List Kinds) (b : BoundFilter) (d : List Entered) (ks : List ℕ) :
     Type 0 where
   pub decided : is_decided ix b ≡ true → (n : ℕ) → has_number n ks ≡ true → open_at n ≡ false
@@ -81,8 +80,7 @@ up_to None ns = ns
 up_to (Some m) ns = filter (λ n. nat_le n m) ns
 
 -- A bound filter was evaluated on just the entries of these numbers that plans of it leave open, up to where a search
--- ends that shows at most so
--- many.
+-- ends that shows at most so many.
 pub record IsCountAmong (ix : List Kinds) (b : BoundFilter) (d : List Entered) (ks : List ℕ) (limit tests : ℕ) :
     Type 0 where
   pub must : Plan

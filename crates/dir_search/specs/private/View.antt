@@ -32,16 +32,15 @@ pub record Finds (a : SearchAnswer) (x : Answer) (most : ℕ) : Type 0 where
   pub tests : a.tests ≤ most
 
 -- An answer in memory shows the entries of the numbers that were found, up to a limit. It tells of as many evaluations
--- as there were numbers left
--- open; where there are more entries than the limit, up to the first past it.
+-- as there were numbers left open; where there are more entries than the limit, up to the first past it.
 pub record ShowsFound (a : SearchAnswer) (show : NamedEntry → SearchResultEntryValue) (limit : ℕ) (d : List Entered)
     (found left_open : List ℕ) : Type 0 where
   pub shown : answer_view a ≡ limited limit (map show (map named (entries_of found d)))
   pub counted : a.tests ≡ length (up_to (first_past limit found) left_open)
 
 -- An answer in memory is what a search finds among the entries of these numbers. It evaluated the filter on few of
--- them; where there are more
--- entries than the size limit, on few of those up to the first past it; and it tells on how many.
+-- them; where there are more entries than the size limit, on few of those up to the first past it; and it tells on how
+-- many.
 pub record FindsAmong (a : SearchAnswer) (s : SchemaModel) (q : SearchRequestValue) (ix : List Kinds)
     (b : BoundFilter) (d : List Entered) (ks : List ℕ)
     : Type 0 where

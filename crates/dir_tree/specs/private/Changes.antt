@@ -1,6 +1,5 @@
 -- What is kept of the entries once one of them has come, gone, or gone to another place with all that stands below it.
--- What a directory is then
--- is in `Directory`.
+-- What a directory is then is in `Directory`.
 use Rattle.std.specs.Prelude.{◌≡◌, ℕ, ◌-◌, Bool, false, cond, ◌&&◌, ◌||◌, not, List, [], ◌∷◌, length, drop, Option, None, Some, nat_eq}
 use Rattle.std.specs.Option.{option_map_or}
 use Rattle.dir_entry.specs.ldap_dn.Names.{TypeAndKey, RdnModel}

@@ -27,8 +27,7 @@ abbrev pub IsUnnamed : SchemaModel → List ℕ → Fault → Type 0
 IsUnnamed s text fault = ((fault ≡ BadName) × (name_of_text s text ≡ None)) ⊎ (fault ≡ NoMemory)
 
 -- Why no replies are made of a script: the schema has no types for the root's name, or the input can't be read, or it
--- has
--- a bad line, or memory is wanting.
+-- has a bad line, or memory is wanting.
 abbrev pub IsScriptCause : SchemaModel → Fault → Option (List ℕ) → Type 0
 IsScriptCause s fault input =
     IsUnnamed s (codes "dc=example,dc=com") fault ⊎ IsUnread fault

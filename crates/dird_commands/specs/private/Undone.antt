@@ -1,6 +1,5 @@
 -- What a job leaves that ends with a fault, and which fault it is, by an input and an output before and after: what
--- contracts that aren't public say of it.
--- What public contracts say is in specs/Undone.
+-- contracts that aren't public say of it. What public contracts say is in specs/Undone.
 use Rattle.std.specs.Prelude.{◌≡◌, ◌⊎◌, ℕ, List, Option, IfSome}
 use Rattle.local_directory.specs.ldif.Imports.{IsImportFault}
 use Rattle.local_directory.specs.ldif.Exports.{IsExportFault}

@@ -27,10 +27,8 @@ abbrev pub NamesOwner : List ℕ → (JournalOwner → Type 0) → Type 0
 NamesOwner front P = (o : JournalOwner) × Heads front o × P o
 
 -- What is said of a file that begins so, to the owner of the journal that is to be kept there. A refusal for the
--- replica, the schema or the suffix
--- says whose journal was found. What is said to hold nothing has no octet that isn't 0, but for those of this owner's
--- head, where its writing was cut
--- short.
+-- replica, the schema or the suffix says whose journal was found. What is said to hold nothing has no octet that isn't
+-- 0, but for those of this owner's head, where its writing was cut short.
 abbrev pub IsJudged : JournalOwner → List ℕ → Result Holding FileDeviceError → Type 0
 IsJudged owner front (Ok holding.Own) = Heads front owner
 IsJudged owner front (Ok holding.Earlier) = HeadsEarlier front owner.replica

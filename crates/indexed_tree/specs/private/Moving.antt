@@ -22,8 +22,7 @@ pub record IsOfTree (m : MoveAsked) : Type 0 where
   pub here : find (rdns m.entry.name) m.tree.entries ≡ Some m.entry
 
 -- The entry of the number and the name is there, and is not the root's; right above the new name stands an entry that
--- is neither this one
--- nor below it; and no other entry has the new name.
+-- is neither this one nor below it; and no other entry has the new name.
 pub record MayMove (t : TreeModel) (number : ℕ) (before after : NameKey) : Type 0 where
   pub here : option_map (λ e. e.number) (find before t.entries) ≡ Some number
   pub root : name_eq before (rdns t.suffix) ≡ false

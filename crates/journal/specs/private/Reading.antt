@@ -1,6 +1,5 @@
 -- How the strings of an image are read one after another, by a window of its octets: what contracts that aren't public
--- say of it.
--- What public contracts say is in specs/Reading.
+-- say of it. What public contracts say is in specs/Reading.
 use Rattle.std.specs.Prelude.{◌≡◌, ◌+◌, Bool, true, false}
 use Rattle.journal.specs.Frames.{after, body_at, head_length, is_whole}
 use Rattle.journal.specs.declared.reader.StringReader.{StringReader}

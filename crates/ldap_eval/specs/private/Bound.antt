@@ -1,6 +1,5 @@
 -- The value of a bound filter on the keys of an entry, and what it is bound to: what contracts that aren't public say
--- of it.
--- What public contracts say is in specs/Bound.
+-- of it. What public contracts say is in specs/Bound.
 use Rattle.std.specs.Prelude.{ℕ, List, [], ◌∷◌, ◌≡◌}
 use Rattle.dir_entry.specs.ldap_schema.Schema.{SchemaModel}
 use Rattle.dir_entry.specs.ldap_match.Item.{Item}

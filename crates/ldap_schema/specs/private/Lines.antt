@@ -1,6 +1,5 @@
 -- Classes in line (RFC 4512 2.4.2), and the ranks by which they are put in order: what contracts that aren't public say
--- of it.
--- What public contracts say is in specs/Lines.
+-- of it. What public contracts say is in specs/Lines.
 use Rattle.std.specs.Prelude.{ℕ, List, [], ◌∷◌, Bool, true, cond, ◌&&◌, ◌||◌, ◌≡◌, ◌<◌, nat_eq, nat_le, nat_lt, map, filter}
 use Rattle.ldap_schema.specs.Schema.{ClassModel}
 use Rattle.ldap_schema.specs.Superclasses.{is_among, direct_superclasses, filled}

@@ -1,6 +1,5 @@
 -- Octets in order, and numbers that are kept at octets, as those of names are: what contracts that aren't public say of
--- it.
--- What public contracts say is in specs/NameOrder.
+-- it. What public contracts say is in specs/NameOrder.
 use Rattle.std.specs.Prelude.{ℕ, List, Option, None, Some, Bool, cond, map}
 use Rattle.std.specs.List.{list_any}
 use Rattle.std.specs.Char.{to_ascii_lowercase}

@@ -1,6 +1,5 @@
 -- What opening a journal finds, and why it is refused as one of another version: what contracts that aren't public say
--- of it.
--- What public contracts say is in specs/Found.
+-- of it. What public contracts say is in specs/Found.
 use Rattle.std.specs.Prelude.{◌≡◌, ℕ, Bool, true, false, List}
 use Rattle.journal.specs.Reading.{ReadsNext, ReadsNone, string_read}
 use Rattle.journal.specs.declared.reader.StringReader.{StringReader}

@@ -1,6 +1,5 @@
 -- What a batch of events makes of a node that threads share, and what is handed over of it to the other replicas: what
--- contracts that aren't public say of it.
--- What public contracts say is in specs/Batches.
+-- contracts that aren't public say of it. What public contracts say is in specs/Batches.
 use Rattle.std.specs.Prelude.{◌≡◌, ℕ, Bool, false, List, length, Option, Some, None, slice_get}
 use Rattle.dir_node.specs.dir_store.ldap_op.Values.{OpValue}
 use Rattle.dir_node.specs.state_machine.Executing.{due_after}
@@ -13,8 +12,7 @@ use Rattle.dir_seats.specs.Showing.{Showing}
 use Rattle.node_gate.specs.private.Given.{HasAll}
 
 -- Each event made its step, or was left out for want of memory; what is committed is executed, unless it is behind for
--- want of memory; and where
--- neither that nor showing wanted memory, the seats see all that is executed.
+-- want of memory; and where neither that nor showing wanted memory, the seats see all that is executed.
 pub record HasHandledAll {D J : Type 0} (old : NodeValue D J) (events : List (Event OpValue)) (handled : AllHandled)
     (new : NodeValue D J) (shown : Showing) : Type 0 where
   pub steps_are : MakesSteps old.count old.index old.replica events handled.outputs.items new.replica

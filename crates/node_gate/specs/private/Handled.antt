@@ -10,8 +10,7 @@ use Rattle.dir_seats.specs.Showing.{Showing}
 use Rattle.node_gate.specs.private.Given.{HasAll}
 
 -- The node made its step and gave out what that sends and answers; what is committed is executed, unless it is behind
--- for want of memory; and where
--- neither that nor showing wanted memory, the seats see all that is executed.
+-- for want of memory; and where neither that nor showing wanted memory, the seats see all that is executed.
 pub record HasHandled {D J : Type 0} (old : NodeValue D J) (event : Event OpValue) (handled : Handled)
     (new : NodeValue D J) (shown : Showing) : Type 0 where
   pub step_is : given new.replica handled.outputs ≡ step old.count old.index old.replica event
@@ -23,8 +22,7 @@ pub record HasHandled {D J : Type 0} (old : NodeValue D J) (event : Event OpValu
   pub seen : handled.behind ≡ false → HasAll new.executed shown
 
 -- What is committed is executed, unless it is behind for want of memory, and nothing else of the node changes; and
--- where neither that nor showing wanted
--- memory, the seats see all that is executed.
+-- where neither that nor showing wanted memory, the seats see all that is executed.
 pub record HasExecuted {D J : Type 0} (old : NodeValue D J) (behind : Bool) (new : NodeValue D J) (shown : Showing) :
     Type 0 where
   pub late : Bool

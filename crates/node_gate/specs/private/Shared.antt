@@ -53,8 +53,7 @@ GivesRequest own None e = Unit {0}
 GivesRequest own (Some (b, a)) e = AreOf own b a × (a.replica ≡ (step_at b e).state)
 
 -- What was given for an update is that client's request of that number for that update, and nothing else; nothing is
--- given where there is no memory for
--- the update.
+-- given where there is no memory for the update.
 abbrev pub IsGivenFor : {D J : Type 0} → NodeIdentity → Option (Event OpValue) →
     Option (NodeValue D J × NodeValue D J) → Client → ℕ → OpValue → EndedValue → Type 0
 IsGivenFor own None moved client number op ended = ended ≡ talk.refused_memory
@@ -62,8 +61,7 @@ IsGivenFor own (Some given) moved client number op ended = (given ≡ request_of
     × GivesRequest own moved given
 
 -- what a gate to the node of this identity may be told, where it gave this event, which made this of the node, and then
--- took this state of the node
--- under the lock
+-- took this state of the node under the lock
 abbrev pub gates : {D J : Type 0} → NodeIdentity → Option (Event OpValue) → Option (NodeValue D J × NodeValue D J) →
     Option (NodeValue D J)
     → Exchange (Option ExecutedValue) → Type 0

@@ -1,6 +1,5 @@
 -- The keywords of descriptions, each with what is to follow it (RFC 4512 4.1.1, 4.1.2): what contracts that aren't
--- public say of it.
--- What public contracts say is in specs/Forms.
+-- public say of it. What public contracts say is in specs/Forms.
 use Rattle.schema_faults.specs.declared.forms.Form.{Form}
 use Rattle.schema_faults.specs.Forms.{FormModel}
 

@@ -1,6 +1,5 @@
 -- The classes that SUP leads to from one, in the order in which they are reached (RFC 4512 2.4). Descriptions come in,
--- classes go out; no
--- contract of another crate names it.
+-- classes go out; no contract of another crate names it.
 use Rattle.std.specs.Prelude.{◌≡◌, ◌++◌, ◌<◌, ◌≤◌, ℕ, List, [], ◌∷◌, Bool, true, false, cond, length, slice_index_or, slice_set, Option, None, Some}
 use Rattle.schema_meaning.specs.Naming.{find, superior_texts}
 use Rattle.schema_meaning.specs.schema_text.Descriptions.{DescriptionModel}

@@ -1,6 +1,5 @@
 -- The chain of SUPs, and the rules and the syntax that are in effect for a type: what contracts that aren't public say
--- of it.
--- What public contracts say is in specs/Inheriting.
+-- of it. What public contracts say is in specs/Inheriting.
 use Rattle.std.specs.Prelude.{List, map}
 use Rattle.schema_text.specs.Descriptions.{DescriptionModel}
 use Rattle.schema_meaning.specs.Naming.{superior_text}

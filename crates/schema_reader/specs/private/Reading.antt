@@ -1,6 +1,5 @@
 -- A schema's text and its schema, or the first thing that is wrong with it: what contracts that aren't public say of
--- it.
--- What public contracts say is in specs/Reading.
+-- it. What public contracts say is in specs/Reading.
 use Rattle.std.specs.Prelude.{ℕ, Option, Some, ◌≡◌}
 use Rattle.schema_reader.specs.declared.error.SchemaError.{SchemaError}
 use Rattle.schema_reader.specs.declared.error.SchemaError.TheVariants.{BadDescription, UnknownName, LoopInSup, NoEquality, NoMemory}

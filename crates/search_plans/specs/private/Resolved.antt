@@ -32,8 +32,7 @@ abbrev pub AreResolved : Lists → List Plan → List ResolvedPlan → Type 0
 AreResolved kept ps rs = (n : ℕ) → map (λ r. is_in_resolved kept r n) rs ≡ map (λ p. is_in_when kept true p n) ps
 
 -- A resolved plan has the numbers in scope that the plan has. Where all numbers that are asked about are known to be in
--- the plan, this is
--- said of such numbers alone.
+-- the plan, this is said of such numbers alone.
 abbrev pub IsResolvedFor : Bool → Lists → Plan → ResolvedPlan → Type 0
 IsResolvedFor is_sure kept p r =
     (n : ℕ) → (is_sure ≡ true → is_in_when kept true p n ≡ true) → is_in_resolved kept r n ≡ is_in_when kept true p n

@@ -19,8 +19,7 @@ use Rattle.search_plans.specs.Bounds.{Bounds, is_decided}
 use Rattle.search_plans.specs.OctetRuns.{has_runs_for}
 
 -- Two plans bound where a filter has the wanted value, whatever the entry's name; and where that is True, what may be
--- holds the runs that the
--- filter asks for.
+-- holds the runs that the filter asks for.
 pub record IsSide (ix : List Kinds) (wanted : Bool) (f : BoundFilter) (must may : Plan) : Type 0 where
   pub bounds : (n : List RdnModel) → Bounds ix (λ e. bound_value n e f) (truth_of wanted) (is_decided ix f) must may
   pub runs : wanted ≡ true → (e : List KeyedAttribute) → holds ix e may ≡ true → has_runs_for ix e f ≡ true
@@ -36,8 +35,7 @@ abbrev pub range_between : Range → Range → Range
 range_between lower upper = record { type_id = lower.type_id; from = lower.from; upto = upper.upto }
 
 -- Whether an entry has a value between the two ends, or may have several values of the type, where the type's values
--- have an index in order: each
--- entry with a value in each of the two ranges is such a one.
+-- have an index in order: each entry with a value in each of the two ranges is such a one.
 abbrev pub is_between : List Kinds → Range → Range → List KeyedAttribute → Bool
 is_between ix lower upper e = (kinds_of ix lower.type_id).ordering
     && (has_in_range (range_between lower upper) e || has_several lower.type_id e)

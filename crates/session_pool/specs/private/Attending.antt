@@ -63,8 +63,7 @@ pub record HasGivenUp (g : PooledSession) : Type 0 where
   pub next : due_next (talk g) ≡ DueUpdate
 
 -- Why a session becomes this by a write: its client may take its time still; or a write has failed, which is tried only
--- where there is something to
--- write, or an answer was too long.
+-- where there is something to write, or an answer was too long.
 abbrev pub HasCause : PooledSession → PooledSession → Duration → Then → Type 0
 HasCause g h limit Listens = Unit {0}
 HasCause g h limit Updates = Unit {0}

@@ -23,8 +23,8 @@ use Rattle.session_pool.specs.declared.place_state.Turn.{Turn}
 use Rattle.session_pool.specs.declared.place_state.Turn.TheVariants.{Seat, Update}
 
 -- A table: where the session of each place is, the sessions that are at their places, which of them wait for their
--- clients in which queue, and
--- the places of those that wait for a seat, each in its class, or for a thread that updates, first in, first out.
+-- clients in which queue, and the places of those that wait for a seat, each in its class, or for a thread that
+-- updates, first in, first out.
 pub record Tabled : Type 0 where
   pub stands : List PlaceState
   pub sessions : List (Option PooledSession)
@@ -153,8 +153,7 @@ pub record IsLeaving (t : Tabled) (p : ℕ) (g : PooledSession) : Type 0 where
   pub is_in : IsIn t.spots p Leaving turn
 
 -- the session of a place that waited for its client waits for its turn behind all others: for a thread that updates,
--- where its next message may
--- be an update; else for a seat, in the class of what it owes now
+-- where its next message may be an update; else for a seat, in the class of what it owes now
 pub record Rouses (t : Tabled) (p : ℕ) (turn : Turn) (now : ℕ) (u : Tabled) : Type 0 where
   pub before : PooledSession
   pub after : PooledSession

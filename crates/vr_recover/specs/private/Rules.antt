@@ -1,6 +1,5 @@
 -- The rules of recovery and state transfer, and the whole step, at a replica with its count and index: what contracts
--- that aren't public say of it.
--- What public contracts say is in specs/Rules.
+-- that aren't public say of it. What public contracts say is in specs/Rules.
 use Rattle.std.specs.Prelude.{ℕ, ◌/◌, ◌==◌, ◌&&◌, Bool, cond, nat_lt, nat_le, Option, Some, None}
 use Rattle.vr_state.specs.declared.message.PeerMessage.{PeerMessage}
 use Rattle.vr_state.specs.declared.message.Response.{Response}

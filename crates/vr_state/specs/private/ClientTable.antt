@@ -9,8 +9,7 @@ use Rattle.log_entry.specs.ClientOrder.{client_cmp}
 use Rattle.vr_state.specs.ClientTable.{IsTableOf}
 
 -- A kept table goes on with these records, which come after so many: of whatever log of that length it was the table,
--- it now is that
--- of the log with the records.
+-- it now is that of the log with the records.
 abbrev pub GoesOnWithAll : {P : Type 0} → map.FinMap client_cmp Latest → map.FinMap client_cmp Latest →
     List (LogEntry P) → ℕ → Type 0
 GoesOnWithAll {P} old new es before = (log : List (LogEntry P)) → IsTableOf old log → before ≡ length log →
