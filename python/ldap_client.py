@@ -153,6 +153,12 @@ class Client:
             self.rest = self.rest[self.at:] + more
             self.at = 0
 
+    def has_message(self) -> bool:
+        """Whether a whole message has come that wasn't taken."""
+        at, whole = self.at, self._whole()
+        self.at = at
+        return whole is not None
+
     def receive(self) -> tuple[int, int, list[tuple[int, bytes]], dict[str, str]]:
         """The next message: its messageID, the operation's octet, the operation's parts, and the controls' values by OID."""
         whole = self.next_message()

@@ -2,8 +2,11 @@
 (`dird import`, `dird export`)."""
 from __future__ import annotations
 
+import bisect
+import collections
 import os
 import re
+import select
 import shutil
 import socket
 import subprocess
@@ -195,8 +198,25 @@ class Records:
             return file.read(end - first)
 
 
+def key_of(name: str) -> str:
+    """A name as names are compared here: without case, and without spaces around what parts it (RFC 4514). Names that are one by their values' rules alone have two keys."""
+    rdns = re.findall(r"(?:\\.|[^,\\])+", name)
+    return ",".join(re.sub(r" *([=+]) *", r"\1", it.strip().lower()) for it in rdns)
+
+
+class Link:
+    """A connection of a load, and the records that were sent over it and have no answer yet, in order."""
+
+    def __init__(self, client: ldap.Client):
+        self.client = client
+        self.under_way: collections.deque[int] = collections.deque()
+
+
 class Loading:
-    """Adds that are sent, some ahead of their answers, to whichever replica takes updates."""
+    """Adds that are sent, some ahead of their answers and over several connections, to whichever replica takes updates.
+
+    Records leave in their order. One whose superior, or whose own name, is under way goes behind it over the same connection, which a replica answers in order. One that is answered
+    with noSuchObject before all earlier ones are answered is sent once more when they are. The last record is sent alone, so that its update's number is the greatest."""
 
     def __init__(self, messages: list[bytes], uris: list[str], manager: str, password: str, goes_on: bool, tell: Callable[[str], None], records: Records | None = None,
                  skips: bool = False, refused_file: str | None = None):
@@ -212,34 +232,43 @@ class Loading:
         # Whether an entry that is there already counts as present, and isn't refused.
         self.skips = skips
         self.refused_file = refused_file
-        # How many records from the first on have an answer.
+        # How many records from the first on have an answer, and which ones beyond.
         self.done = 0
+        self.answered: set[int] = set()
+        # How many records have an answer, and which is the next to be sent.
+        self.settled = 0
+        self.next = 0
+        # Those that are sent again once all earlier ones are answered.
+        self.again: set[int] = set()
+        # Where records are under way, by number and by name.
+        self.links: list[Link] = []
+        self.named: dict[str, tuple[Link, int]] = {}
         self.added = 0
         self.present: list[int] = []
         self.refused: list[int] = []
         # Those beyond the first refused one that were under way and were added, or got no answer.
         self.beyond: list[int] = []
         self.unanswered: list[int] = []
-        # How many were sent over streams that broke, and may have been made without an answer.
-        self.unsure = 0
+        # Those that were sent over connections that broke, and may have been made without an answer.
+        self.unsure: set[int] = set()
         # The last reason of each replica to take no update, and whether it was told since something went forward.
         self.reasons: dict[str, str] = {}
 
-    def run(self, first: int, ahead: int) -> None:
-        """Sends all from one on, this many ahead of the answers; raises at the first refused one, once what was under way is answered."""
+    def run(self, first: int, ahead: int, connections: int = 1) -> None:
+        """Sends all from one on, over so many connections, this many ahead of the answers on each; raises at the first refused one, once what was under way is answered."""
         self.done = first
         moved_at, tried = time.monotonic(), 0
         while self.done < len(self.messages):
-            before = self.done
+            before = self.settled
             uri = self.uris[tried % len(self.uris)]
             why, referred = "", []
             try:
-                why, referred = self._through(uri, ahead)
+                why, referred = self._through(uri, ahead, connections)
             except (OSError, Closed) as error:
                 why = reason_of(error)
             if self.refused and not self.goes_on:
                 raise Refused(f"{ranges_of(self.refused)} refused")
-            if self.done > before:
+            if self.settled > before:
                 moved_at = time.monotonic()
                 self.reasons.clear()
             if self.done == len(self.messages):
@@ -253,7 +282,7 @@ class Loading:
             if time.monotonic() - moved_at > PATIENCE:
                 reasons = "; ".join(f"{uri}: {why}" for uri, why in self.reasons.items())
                 raise Failure(f"no replica took record {self.done + 1} for {PATIENCE:.0f} seconds ({reasons or 'each referred to another'}): more than half have to run; name all of them")
-            if self.done == before:
+            if self.settled == before:
                 time.sleep(0.2)
 
     def _tell_retry(self, uri: str, why: str, other: str) -> None:
@@ -262,38 +291,106 @@ class Loading:
             self.reasons[uri] = why
             self.tell(f"{uri}: {why}; {'asking ' + other if other != uri else 'asking it again'} from record {self.done + 1} on")
 
-    def _through(self, uri: str, ahead: int) -> tuple[str, list[str]]:
+    def _through(self, uri: str, ahead: int, connections: int) -> tuple[str, list[str]]:
         """Sends what is left through one replica, until it is done, or one is refused, or the replica takes no more: why, and the URIs that it refers to."""
         if self._refuses_long():
             return "", []
-        client = session(uri, self.manager, self.password)
-        sent = self.done
+        self.links = [Link(session(uri, self.manager, self.password))]
+        self.next = self.done
         try:
-            while self.done < len(self.messages):
-                while sent < len(self.messages) and sent - self.done < ahead and len(self.messages[sent]) <= LONGEST and self._goes_forward():
-                    client.socket.sendall(self.messages[sent])
-                    sent += 1
-                if sent == self.done:
+            while True:
+                self._send_all(ahead)
+                waiting = [it for it in self.links if it.under_way]
+                if not waiting:
                     if not self._goes_forward() or self._refuses_long():
                         return "", []
-                    sent = self.done
                     continue
-                number, _, fields, controls = client.receive()
-                code, text = int.from_bytes(fields[0][1], "big"), fields[2][1].decode("utf-8", "replace")
-                if number == 0:
-                    raise Closed(f"it ended the session: {code_name(code)}")
-                if code == REFERRAL:
-                    return self._referred(uri, [it.decode() for field, content in fields if field == 0xA3 for _, it in ldap.elements(content)])
-                if code in ELSEWHERE:
-                    return code_name(code), []
-                self.number = controls.get(ldap.READ, "")
-                self._settle(code, text)
-            return "", []
+                for link in self._readable(waiting):
+                    ended = self._take(uri, link)
+                    if ended is not None:
+                        return ended
+                connections = self._opened(uri, connections)
         finally:
+            left = {index for link in self.links for index in link.under_way}
             if not self._goes_forward():
-                self.unanswered = list(range(self.done + 1, sent + 1))
-            self.unsure = max(self.unsure, sent)
-            client.close()
+                self.unanswered = sorted(index + 1 for index in left)
+            self.unsure |= left
+            for link in self.links:
+                link.client.close()
+            self.links, self.named = [], {}
+
+    def _opened(self, uri: str, connections: int) -> int:
+        """Opens the other connections to a replica that takes updates; how many there may be, which is fewer where it takes no more."""
+        while len(self.links) < min(connections, len(self.messages) - self.done) and self._goes_forward():
+            try:
+                self.links.append(Link(session(uri, self.manager, self.password)))
+            except (OSError, Closed):
+                return len(self.links)
+        return connections
+
+    def _readable(self, links: list[Link]) -> list[Link]:
+        """Those that have an answer, or have ended; waits for one."""
+        ready = [it for it in links if it.client.has_message()]
+        if ready or len(links) == 1:
+            return ready or links
+        found, _, _ = select.select([it.client.socket for it in links], [], [], SILENCE)
+        if not found:
+            raise Closed("timed out")
+        return [it for it in links if it.client.socket in found]
+
+    def _send_all(self, ahead: int) -> None:
+        """Sends the next records, as many as may be under way."""
+        while self._goes_forward():
+            if self.done in self.again:
+                self.again.discard(self.done)
+                self._send(self.links[0], self.done)
+            while self.next in self.answered or self.next < self.done:
+                self.next += 1
+            index = self.next
+            if index >= len(self.messages) or len(self.messages[index]) > LONGEST or index == len(self.messages) - 1 != self.done:
+                return
+            link = self._link_for(index, ahead)
+            if link is None:
+                return
+            self._send(link, index)
+            self.next += 1
+
+    def _link_for(self, index: int, ahead: int) -> Link | None:
+        """The connection that a record is sent over: that of its superior or of its own name, while they have no answer; else that with the fewest under way. None, if that has too many."""
+        key = key_of(record_of(self.messages[index]))
+        before = [it for it in (self.named.get(key), self.named.get(key.partition(",")[2])) if it is not None]
+        if len({id(link) for link, _ in before}) > 1:
+            return None
+        link = before[0][0] if before else min(self.links, key=lambda it: len(it.under_way))
+        return link if len(link.under_way) < ahead else None
+
+    def _send(self, link: Link, index: int) -> None:
+        """Sends a record."""
+        link.under_way.append(index)
+        self.named[key_of(record_of(self.messages[index]))] = (link, index)
+        link.client.socket.sendall(self.messages[index])
+
+    def _take(self, uri: str, link: Link) -> tuple[str, list[str]] | None:
+        """Takes the next answer of a connection; why the replica takes no more, and the URIs that it refers to, if it doesn't."""
+        number, _, fields, controls = link.client.receive()
+        code, text = int.from_bytes(fields[0][1], "big"), fields[2][1].decode("utf-8", "replace")
+        if number == 0:
+            raise Closed(f"it ended the session: {code_name(code)}")
+        if code == REFERRAL:
+            return self._referred(uri, [it.decode() for field, content in fields if field == 0xA3 for _, it in ldap.elements(content)])
+        if code in ELSEWHERE:
+            return code_name(code), []
+        index = link.under_way.popleft()
+        key = key_of(record_of(self.messages[index]))
+        if self.named.get(key) == (link, index):
+            del self.named[key]
+        if index == len(self.messages) - 1:
+            self.number = controls.get(ldap.READ, "")
+        if code == NO_SUCH_OBJECT and index > self.done and self._goes_forward():
+            self.again.add(index)
+        else:
+            self._settle(index, code, text)
+        return None
 
     def _goes_forward(self) -> bool:
         """Whether further records are sent."""
@@ -302,8 +399,8 @@ class Loading:
     def _refuses_long(self) -> bool:
         """Refuses the next record where it is too long for a message, which no replica would read; whether that is the end."""
         while self.done < len(self.messages) and len(self.messages[self.done]) > LONGEST:
-            self._refuse(f"its request takes {len(self.messages[self.done])} octets, and a replica reads at most {LONGEST}: it is not sent")
-            self.done += 1
+            self._refuse(self.done, f"its request takes {len(self.messages[self.done])} octets, and a replica reads at most {LONGEST}: it is not sent")
+            self._count(self.done)
             if not self._goes_forward():
                 return True
         return self.done == len(self.messages)
@@ -313,32 +410,39 @@ class Loading:
         spoken = [it for it in uris if it.startswith("ldap://")]
         return (f"it refers to {', '.join(uris)}, which is no ldap:// URI" if not spoken else ""), spoken
 
-    def _settle(self, code: int, text: str) -> None:
-        """Counts the answer to the next record."""
-        if code == EXISTS and self.done < self.unsure:
+    def _settle(self, index: int, code: int, text: str) -> None:
+        """Counts the answer to a record."""
+        if code == EXISTS and index in self.unsure:
             code = SUCCESS
         if code == SUCCESS:
             self.added += 1
-            if not self._goes_forward():
-                self.beyond.append(self.done + 1)
+            if not self._goes_forward() and index + 1 > self.refused[0]:
+                bisect.insort(self.beyond, index + 1)
         elif code == EXISTS and self.skips:
-            self.present.append(self.done + 1)
+            bisect.insort(self.present, index + 1)
         else:
-            self._refuse(f"{code_name(code)}{': ' + text if text else ''}")
-        self.done += 1
+            self._refuse(index, f"{code_name(code)}{': ' + text if text else ''}")
+        self._count(index)
 
-    def _refuse(self, why: str) -> None:
+    def _count(self, index: int) -> None:
+        """Notes that a record has its answer."""
+        self.settled += 1
+        self.answered.add(index)
+        while self.done in self.answered:
+            self.answered.discard(self.done)
+            self.done += 1
+
+    def _refuse(self, index: int, why: str) -> None:
         """Tells of a record that is refused, and writes it to the file of those."""
-        number = self.done + 1
-        line = self.records.line(self.done) if self.records else ""
-        self.tell(f"record {number}{line} ({record_of(self.messages[self.done])}): {why}")
+        line = self.records.line(index) if self.records else ""
+        self.tell(f"record {index + 1}{line} ({record_of(self.messages[index])}): {why}")
         if self.refused_file is not None and self.records is not None:
             with open(self.refused_file, "ab" if self.refused else "wb") as file:
                 if not self.refused:
                     file.write(b"version: 1\n")
-                text = self.records.text(self.done).replace(b"\r\n", b"\n")
-                file.write(f"\n# record {number}{line} of {os.path.basename(self.records.path)}: {why}\n".encode() + text.rstrip(b"\n") + b"\n")
-        self.refused.append(number)
+                text = self.records.text(index).replace(b"\r\n", b"\n")
+                file.write(f"\n# record {index + 1}{line} of {os.path.basename(self.records.path)}: {why}\n".encode() + text.rstrip(b"\n") + b"\n")
+        bisect.insort(self.refused, index + 1)
 
 
 def messages_of(path: str) -> list[bytes]:

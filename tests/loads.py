@@ -24,9 +24,12 @@ CLOSES = -1
 class Played:
     """A replica that answers each bind with 0, and each add by a function of its name and of how often it came: a result code, or an end of the connection. An add that asks for its number gets 77."""
 
-    def __init__(self, answer: Callable[[str, int], int], referral: str | None = None):
+    def __init__(self, answer: Callable[[str, int], int], referral: str | None = None, most: int = 1000):
         self.answer = answer
         self.referral = referral
+        # How many sessions there may be, and how many there were as each began.
+        self.most = most
+        self.sessions: list[int] = []
         self.came: dict[str, int] = {}
         self.listener = socket.create_server((HOST, 0))
         self.uri = f"ldap://{HOST}:{self.listener.getsockname()[1]}"
@@ -38,6 +41,10 @@ class Played:
                 stream, _ = self.listener.accept()
             except OSError:
                 return
+            if len(self.sessions) >= self.most:
+                stream.close()
+                continue
+            self.sessions.append(len(self.sessions) + 1)
             threading.Thread(target=self._session, args=(stream,), daemon=True).start()
 
     def _session(self, stream: socket.socket) -> None:
@@ -91,7 +98,7 @@ def a_load_names_what_was_added_beyond_a_refusal(folder: str) -> None:
     """Records 2 and 5 are refused while all are under way: it says so, with lines, and which others are added."""
     replica = Played(lambda name, _: 65 if name in ("cn=2", "cn=5") else 0)
     path, refused = records_in(folder, 30), os.path.join(folder, "refused.ldif")
-    stopped = loaded(folder, path, replica.uri, "--refused", refused, "--ahead", "6")
+    stopped = loaded(folder, path, replica.uri, "--refused", refused, "--connections", "1", "--ahead", "6")
     assert stopped.returncode == 1, stopped
     assert re.match(r"5 records added, 2 refused, 23 left, in ", stopped.stdout), stopped
     for piece in ("record 2, line 6 (cn=2,", "65 (objectClassViolation)", "record 5, line 21 (cn=5,", "records 3 to 4 and 6 to 7 were under way and are added", "correct records 2 and 5", "--from 2:"):
@@ -140,7 +147,7 @@ def a_load_asks_another_replica(folder: str) -> None:
     path = records_in(folder, 6)
     for first, why in ((lambda name, _: 52, "52 (unavailable)"), (lambda name, _: 80 if name == "cn=3" else 0, "80 (other)"), (lambda name, _: CLOSES if name == "cn=3" else 0, "it closed the connection")):
         one, two = Played(first), Played(lambda name, count: 68 if name == "cn=3" else 0)
-        told = loaded(folder, path, closed, one.uri, two.uri, "--ahead", "1", *(["--from", "1"] if why.startswith("52") else []))
+        told = loaded(folder, path, closed, one.uri, two.uri, "--connections", "1", "--ahead", "1", *(["--from", "1"] if why.startswith("52") else []))
         assert told.returncode == 0 and " 0 refused, 0 left" in told.stdout, told
         assert told.stderr.count(f"{closed}: connection refused: nothing listens there; asking {one.uri}") == 1, told
         assert told.stderr.count(f"{one.uri}: {why}; asking {two.uri} from record {1 if why.startswith('52') else 3} on") == 1, told
@@ -149,9 +156,45 @@ def a_load_asks_another_replica(folder: str) -> None:
         two.close()
     # One that says 52 for a while is told once.
     slow = Played(lambda name, count: 52 if count < 8 else 0)
-    told = loaded(folder, path, slow.uri, "--ahead", "1")
+    told = loaded(folder, path, slow.uri, "--connections", "1", "--ahead", "1")
     assert told.returncode == 0 and told.stderr.count("52 (unavailable); asking it again from record 1 on") == 1, told
     slow.close()
+
+
+def a_load_uses_several_connections(folder: str) -> None:
+    """A record that is answered with 32 before an earlier one is answered is sent again; one that is refused ends the load, and what was under way elsewhere is named; a replica
+    that takes no further connection is asked over those that it took."""
+    path = records_in(folder, 40)
+
+    def answer(name: str, count: int) -> int:
+        if name == "cn=4":
+            time.sleep(0.5)
+        return 32 if name == "cn=5" and count == 1 else 0
+
+    replica = Played(answer)
+    run = loaded(folder, path, replica.uri)
+    assert re.fullmatch(r"40 records added, 0 refused, 0 left, in \d+\.\d s; the last update is 77\n", run.stdout), run
+    assert replica.came["cn=5"] == 2 and max(replica.sessions) > 8, (replica.came, replica.sessions)
+    replica.close()
+    missing = Played(lambda name, _: 32 if name == "cn=5" else 0)
+    run = loaded(folder, path, missing.uri, "--go-on")
+    assert run.returncode == 1 and run.stdout.startswith("39 records added, 1 refused, 0 left") and "record 5, line 21 (cn=5," in run.stderr, run
+    missing.close()
+
+    def refuses(name: str, _: int) -> int:
+        time.sleep(0.5 if name == "cn=9" else 0.1)
+        return 65 if name == "cn=3" else 0
+
+    bad = Played(refuses)
+    run = loaded(folder, path, bad.uri, "--connections", "8", "--ahead", "1")
+    added, left = re.match(r"(\d+) records added, 1 refused, (\d+) left", run.stdout).groups()
+    assert run.returncode == 1 and int(added) + int(left) == 39 and int(added) == sum(bad.came.values()) - 1, (run, bad.came)
+    assert "were under way and are added" in run.stderr and "--from 3:" in run.stderr, run
+    bad.close()
+    few = Played(lambda name, _: 0, most=3)
+    run = loaded(folder, path, few.uri)
+    assert run.returncode == 0 and run.stdout.startswith("40 records added, 0 refused, 0 left") and max(few.sessions) == 3, (run, few.sessions)
+    few.close()
 
 
 def a_load_refuses_what_is_too_long(folder: str) -> None:
@@ -178,7 +221,7 @@ def a_load_shows_its_progress_on_a_terminal(folder: str) -> None:
     with open(secret, "w", encoding="utf-8") as file:
         file.write(PASSWORD + "\n")
     ours, its = pty.openpty()
-    process = subprocess.Popen([LOAD, path, replica.uri, "--manager", MANAGER, "--password-file", secret], cwd=folder, stdout=subprocess.DEVNULL, stderr=its, env={**os.environ, "DIRD": program()})
+    process = subprocess.Popen([LOAD, path, replica.uri, "--connections", "1", "--manager", MANAGER, "--password-file", secret], cwd=folder, stdout=subprocess.DEVNULL, stderr=its, env={**os.environ, "DIRD": program()})
     os.close(its)
     shown = b""
     while select.select([ours], [], [], 60)[0]:
@@ -311,5 +354,5 @@ def a_status_is_that_of_a_majority(_folder: str) -> None:
                 replica.server.server_close()
 
 
-TESTS = (a_status_is_that_of_a_majority, a_load_names_what_was_added_beyond_a_refusal, a_load_from_a_record_passes_over_what_is_there, a_load_asks_another_replica, a_load_refuses_what_is_too_long,
+TESTS = (a_status_is_that_of_a_majority, a_load_names_what_was_added_beyond_a_refusal, a_load_from_a_record_passes_over_what_is_there, a_load_asks_another_replica, a_load_uses_several_connections, a_load_refuses_what_is_too_long,
          a_load_shows_its_progress_on_a_terminal, messages_name_what_to_do, tools_find_the_program)
