@@ -2,8 +2,8 @@
 use Rattle.std.proofs.Common.{◌≡◌, ℕ, ◌+◌, ◌<◌, ◌≤◌, List, ◌++◌, length, min, get_or, take, sym, subst}
 use Rattle.std.proofs.lemmas.List.{map-id}
 use Rattle.ldap_msg.specs.ldap_ber.Element.{element_bytes}
-use Rattle.ldap_msg.specs.ldap_fields.Rows.{row_bytes}
-use Rattle.ldap_msg.proofs.ldap_fields.Written.{row_step, row_long, row_measure, element_long}
+use Rattle.ldap_msg.specs.ldap_ber.Rows.{row_bytes}
+use Rattle.ldap_msg.proofs.ldap_ber.RowsWritten.{row_step, row_long, row_measure, element_long}
 
 -- one more value is written
 pub value_step : (old now new : List ℕ) (xs : List (List ℕ)) (i : ℕ) (x : List ℕ) → i < length xs → x ≡ get_or xs i x

@@ -2,7 +2,7 @@
 //! for each that is greater.
 ghost use Rattle.std.specs.Prelude.{◌≡◌, ◌^◌, ◌≤◌, ◌++◌, drop, length, map, min, IfOk, OnOk, IsErrOf};
 ghost use Rattle.ldap_msg.specs.ldap_ber.Element.{element_bytes};
-ghost use Rattle.ldap_msg.specs.ldap_fields.Rows.{row_bytes};
+ghost use Rattle.ldap_msg.specs.ldap_ber.Rows.{row_bytes};
 
 use dir_tree::Octets;
 use ldap_msg::{EncodeError, add_lengths, element_length, write, write_head};

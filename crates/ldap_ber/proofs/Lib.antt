@@ -5,3 +5,10 @@ pub mod Headers
 pub mod ValueLemmas
 pub mod Written
 pub mod Digits
+pub mod Same
+pub mod RowLemmas
+pub mod RowsWritten
+pub mod Parts
+pub mod Spelled
+pub mod Puts
+pub mod Measures

@@ -3,4 +3,8 @@ pub mod Element
 pub mod Reading
 pub mod Header
 pub mod Values
+pub mod Fields
+pub mod Rows
+pub mod Faults
+pub mod Written
 pub mod private

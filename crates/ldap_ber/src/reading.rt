@@ -6,9 +6,9 @@ ghost use Rattle.ldap_ber.specs.Reading.{IsFault};
 ghost use Rattle.ldap_ber.specs.private.Reading.{length_at, element_at, Gives};
 ghost use Rattle.ldap_ber.specs.declared.fault.BerFault.{BerFault};
 
-use crate::element::Element;
 use crate::fault::BerFault;
 use crate::octets::number;
+use crate::read_element::Element;
 
 /// The length at the front, and the octets after it.
 pub fn length_of(octets: &[u8]) -> Result<(u64, &[u8]), BerFault>

@@ -1,9 +1,9 @@
 -- What a part of an item lacks, the item lacks: at each exit of a reader, behind the parts that it read.
 use Rattle.std.proofs.Common.{◌≡◌, ℕ, Bool, Option, List, [], ◌∷◌, ◌++◌, refl, sym, ap, subst, ◌∙◌, append_assoc}
 use Rattle.std.proofs.lemmas.List.{append-nil}
-use Rattle.ldap_fields.specs.Fields.{HasField, HasText, HasTextOrNone, HasOctetsOrNone, HasFlagOrFalse, BeginsOtherwise}
-use Rattle.ldap_fields.proofs.Same.{step, octets_unique, text_unique, text_or_none_unique, octets_or_none_unique, flag_or_false_unique, text_part, same_field}
-use Rattle.ldap_fields.proofs.Parts.{octets_part, text_or_none_part, octets_or_none_part}
+use Rattle.ldap_ber.specs.Fields.{HasField, HasText, HasTextOrNone, HasOctetsOrNone, HasFlagOrFalse, BeginsOtherwise}
+use Rattle.ldap_ber.proofs.Same.{step, octets_unique, text_unique, text_or_none_unique, octets_or_none_unique, flag_or_false_unique, text_part, same_field}
+use Rattle.ldap_ber.proofs.Parts.{octets_part, text_or_none_part, octets_or_none_part}
 use Rattle.ldap_filter.specs.Item.{SubstringsValue, ExtensibleValue}
 use Rattle.ldap_filter.specs.ItemGrammar.{AreAnyParts, AreParts, IsSubstrings, IsExtensible}
 use Rattle.ldap_filter.proofs.Items.{any_unique}

@@ -1,18 +1,18 @@
 -- Why a filter was refused, at each exit.
 use Rattle.std.proofs.Common.{◌≡◌, ℕ, suc, ◌-◌, ◌<◌, List, [], ◌++◌, sym, ap, subst, ◌∙◌, ◌⊎◌, inl, arith}
 use Rattle.std.proofs.lemmas.List.{append-nil}
-use Rattle.ldap_fields.specs.ldap_ber.Element.{IsElement}
+use Rattle.ldap_ber.specs.Element.{IsElement}
 use Rattle.ldap_filter.specs.Item.{Item}
 use Rattle.ldap_filter.specs.Tree.{Tree, conj, disj, negation, item}
 use Rattle.ldap_filter.specs.ItemGrammar.{item_octet, IsItem}
 use Rattle.ldap_filter.specs.Grammar.{octet_of, IsBody, IsFilter}
-use Rattle.ldap_fields.specs.Fields.{HasField}
-use Rattle.ldap_fields.specs.Faults.{IsPlainFault}
+use Rattle.ldap_ber.specs.Fields.{HasField}
+use Rattle.ldap_ber.specs.Faults.{IsPlainFault}
 use Rattle.ldap_filter.specs.Limits.{IsOctet, Opens, under, along, IsFault}
 use Rattle.ldap_filter.specs.private.Limits.{IsItemTree, Reads, IsRowFault}
-use Rattle.ldap_fields.specs.declared.fault.MsgFault.{MsgFault}
-use Rattle.ldap_fields.specs.declared.fault.MsgFault.TheVariants.{TooLarge, NotAMessage, TooDeep, TooManyItems, NoMemory}
-use Rattle.ldap_fields.proofs.Same.{same_field}
+use Rattle.ldap_ber.specs.declared.message_fault.MsgFault.{MsgFault}
+use Rattle.ldap_ber.specs.declared.message_fault.MsgFault.TheVariants.{TooLarge, NotAMessage, TooDeep, TooManyItems, NoMemory}
+use Rattle.ldap_ber.proofs.Same.{same_field}
 use Rattle.ldap_filter.proofs.Items.{item_known}
 use Rattle.ldap_filter.proofs.Unique.{filter_field, negation_of, row_of, front_unique}
 

@@ -1,7 +1,7 @@
 -- Octets spell one item, and which kind its first octet tells.
 use Rattle.std.proofs.Common.{◌≡◌, ℕ, Bool, Option, List, [], ◌∷◌, inl, inr, refl, sym, ap, ap₂, subst, ◌∙◌, arith}
-use Rattle.ldap_fields.proofs.Same.{Same, step, field_front, octets_unique, text_unique, text_or_none_unique, octets_or_none_unique, flag_or_false_unique, text_part, same_field}
-use Rattle.ldap_fields.proofs.Parts.{octets_part, text_or_none_part, octets_or_none_part}
+use Rattle.ldap_ber.proofs.Same.{Same, step, field_front, octets_unique, text_unique, text_or_none_unique, octets_or_none_unique, flag_or_false_unique, text_part, same_field}
+use Rattle.ldap_ber.proofs.Parts.{octets_part, text_or_none_part, octets_or_none_part}
 use Rattle.ldap_filter.specs.Item.{Comparison, equal, at_least, at_most, approximate, SubstringsValue, ExtensibleValue, Item, comparison, substrings, presence, extensible}
 use Rattle.ldap_filter.specs.ItemGrammar.{comparison_octet, item_octet, IsAssertion, AreAnyParts, AreParts, IsSubstrings, IsExtensible, IsItem}
 use Rattle.ldap_filter.specs.Limits.{IsOctet}

@@ -1,11 +1,11 @@
 -- What is written for an item is in the grammar.
 use Rattle.std.proofs.Common.{◌≡◌, ℕ, ◌<◌, ◌%◌, Option, Some, None, List, [], ◌∷◌, ◌++◌, refl, sym, subst, ◌∙◌, append_assoc, arith}
 use Rattle.std.proofs.lemmas.List.{append-nil}
-use Rattle.ldap_fields.specs.ldap_ber.Element.{element_bytes}
-use Rattle.ldap_fields.specs.Fields.{HasField, HasTextOrNone, HasOctetsOrNone, HasFlagOrFalse, BeginsOtherwise}
-use Rattle.ldap_fields.specs.Rows.{row_bytes}
-use Rattle.ldap_fields.specs.Written.{optional_bytes, flag_or_false_bytes}
-use Rattle.ldap_fields.proofs.Spelled.{IsShort, field, inner, left, right, text, optional_otherwise, text_or_none, octets_or_none, flag_or_false}
+use Rattle.ldap_ber.specs.Element.{element_bytes}
+use Rattle.ldap_ber.specs.Fields.{HasField, HasTextOrNone, HasOctetsOrNone, HasFlagOrFalse, BeginsOtherwise}
+use Rattle.ldap_ber.specs.Rows.{row_bytes}
+use Rattle.ldap_ber.specs.Written.{optional_bytes, flag_or_false_bytes}
+use Rattle.ldap_ber.proofs.Spelled.{IsShort, field, inner, left, right, text, optional_otherwise, text_or_none, octets_or_none, flag_or_false}
 use Rattle.ldap_filter.specs.Item.{Comparison, equal, at_least, at_most, approximate, SubstringsValue, ExtensibleValue, Item, comparison, substrings, presence, extensible}
 use Rattle.ldap_filter.specs.ItemGrammar.{comparison_octet, item_octet, AreAnyParts, AreParts, IsSubstrings, IsExtensible, IsItem, parts_content, substrings_content, extensible_content, item_content, HasSomePart, IsSpellable}
 

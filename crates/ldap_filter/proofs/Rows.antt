@@ -8,8 +8,8 @@ use Rattle.ldap_filter.specs.Grammar.{AreFilters, IsFilter}
 use Rattle.ldap_filter.specs.Limits.{IsFault}
 use Rattle.ldap_filter.specs.private.Limits.{Reads, ReadsRow, IsRowFault}
 use Rattle.ldap_filter.specs.declared.tree.Filter.{Filter}
-use Rattle.ldap_fields.specs.declared.fault.MsgFault.{MsgFault}
-use Rattle.ldap_fields.specs.declared.fault.MsgFault.TheVariants.{TooLarge, NotAMessage, TooDeep, TooManyItems, NoMemory}
+use Rattle.ldap_ber.specs.declared.message_fault.MsgFault.{MsgFault}
+use Rattle.ldap_ber.specs.declared.message_fault.MsgFault.TheVariants.{TooLarge, NotAMessage, TooDeep, TooManyItems, NoMemory}
 use Rattle.ldap_filter.proofs.Unique.{behind}
 
 -- the trees with one more at the end

@@ -1,8 +1,8 @@
 -- What is written is in the grammar.
 use Rattle.std.proofs.Common.{ℕ, ◌<◌, List, ◌%◌, length, refl, arith}
 use Rattle.std.proofs.lemmas.List.{length-append}
-use Rattle.ldap_fields.specs.ldap_ber.Element.{length_octets, element_bytes}
-use Rattle.ldap_fields.proofs.ldap_ber.Written.{written as element_written}
+use Rattle.ldap_ber.specs.Element.{length_octets, element_bytes}
+use Rattle.ldap_ber.proofs.Written.{written as element_written}
 use Rattle.ldap_filter.specs.Tree.{Tree, conj, disj, negation, item, Trees, no_trees, tree}
 use Rattle.ldap_filter.specs.Grammar.{octet_of, IsBody, AreFilters, IsFilter, HasTexts, HaveTexts, filter_content, filter_bytes, filters_bytes}
 use Rattle.ldap_filter.proofs.ItemsSpelled.{item_low, item_written}

@@ -3,13 +3,12 @@ use Rattle.std.proofs.Common.{◌≡◌, ℕ, ◌≤◌, List, [], ◌++◌, ref
 use Rattle.ldap_filter.specs.Tree.{Tree, depth, count}
 use Rattle.ldap_filter.specs.Grammar.{IsFilter}
 use Rattle.ldap_filter.specs.ItemGrammar.{IsAssertion}
-use Rattle.ldap_fields.specs.Fields.{HasField}
+use Rattle.ldap_ber.specs.Fields.{HasField, HasText}
 use Rattle.ldap_filter.specs.Limits.{IsFault}
 use Rattle.ldap_filter.specs.private.Limits.{Reads}
-use Rattle.ldap_fields.specs.declared.fault.MsgFault.{MsgFault}
-use Rattle.ldap_fields.specs.declared.fault.MsgFault.TheVariants.{TooLarge, NotAMessage, TooDeep, TooManyItems, NoMemory}
-use Rattle.ldap_fields.proofs.Same.{behind_text, octets_unique}
-use Rattle.ldap_fields.specs.Fields.{HasText}
+use Rattle.ldap_ber.specs.declared.message_fault.MsgFault.{MsgFault}
+use Rattle.ldap_ber.specs.declared.message_fault.MsgFault.TheVariants.{TooLarge, NotAMessage, TooDeep, TooManyItems, NoMemory}
+use Rattle.ldap_ber.proofs.Same.{behind_text, octets_unique}
 use Rattle.ldap_filter.proofs.Unique.{front_unique, opens_within}
 
 pub no_second : (content d rest : List ℕ) → HasText content 4 d rest → (e a : List ℕ) × IsAssertion e a content →

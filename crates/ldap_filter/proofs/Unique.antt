@@ -1,11 +1,11 @@
 -- A spelling belongs to one filter, and none begins another.
 use Rattle.std.proofs.Common.{◌≡◌, ℕ, suc, ◌+◌, ◌<◌, ◌≤◌, List, [], ◌∷◌, ◌++◌, refl, sym, ap, subst, ◌∙◌, ◌⊎◌, inl, inr, append_assoc, arith}
 use Rattle.std.proofs.lemmas.List.{append-nil, append_cancel_right}
-use Rattle.ldap_fields.specs.ldap_ber.Element.{IsElement}
-use Rattle.ldap_fields.proofs.Same.{same_spelled, same_field, not_nothing}
+use Rattle.ldap_ber.specs.Element.{IsElement}
+use Rattle.ldap_ber.proofs.Same.{same_spelled, same_field, not_nothing}
 use Rattle.ldap_filter.specs.Tree.{Tree, conj, disj, negation, item, Trees, no_trees, tree, depth, depths, count, counts}
 use Rattle.ldap_filter.specs.Grammar.{octet_of, IsBody, AreFilters, IsFilter}
-use Rattle.ldap_fields.specs.Fields.{HasField}
+use Rattle.ldap_ber.specs.Fields.{HasField}
 use Rattle.ldap_filter.specs.Limits.{Opens, here, under, along}
 use Rattle.ldap_filter.proofs.Items.{item_unique, is_no_row}
 

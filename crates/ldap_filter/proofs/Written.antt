@@ -6,7 +6,7 @@ use Rattle.ldap_filter.specs.View.{view}
 use Rattle.ldap_filter.specs.private.View.{views}
 use Rattle.ldap_filter.specs.Grammar.{octet_of, filter_content, filter_bytes, filters_bytes}
 use Rattle.ldap_filter.specs.declared.tree.Filter.{Filter}
-use Rattle.ldap_fields.proofs.Written.{element_long}
+use Rattle.ldap_ber.proofs.RowsWritten.{element_long}
 use Rattle.ldap_filter.proofs.Rows.{push, views_push}
 
 filters_bytes_push : (ts : Trees) (u : Tree) → filters_bytes (push ts u) ≡ filters_bytes ts ++ filter_bytes u

@@ -1,7 +1,7 @@
 -- The octets that spell a filter (RFC 4511 4.5.1: Filter). A length may be spelled in several ways, so a filter has
 -- several spellings.
 use Rattle.std.specs.Prelude.{◌≡◌, ℕ, List, [], ◌++◌}
-use Rattle.ldap_fields.specs.ldap_ber.Element.{IsElement, element_bytes}
+use Rattle.ldap_ber.specs.Element.{IsElement, element_bytes}
 use Rattle.ldap_filter.specs.Tree.{Tree, conj, disj, negation, item, Trees, no_trees, tree}
 use Rattle.ldap_filter.specs.ItemGrammar.{item_octet, IsItem, item_content, IsSpellable}
 

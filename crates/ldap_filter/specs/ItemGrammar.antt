@@ -1,10 +1,10 @@
 -- The octets that spell an item (RFC 4511 4.5.1: Filter).
 use Rattle.std.specs.Prelude.{◌≡◌, ◌≢◌, ℕ, List, [], ◌∷◌, ◌++◌, Option, Some, None}
 use Rattle.std.specs.Str.{IsUtf8}
-use Rattle.ldap_fields.specs.ldap_ber.Element.{element_bytes}
-use Rattle.ldap_fields.specs.Fields.{HasField, HasText, HasPart, HasTextOrNone, HasOctetsOrNone, HasFlagOrFalse, BeginsOtherwise, Seq}
-use Rattle.ldap_fields.specs.Rows.{row_bytes}
-use Rattle.ldap_fields.specs.Written.{optional_bytes, flag_or_false_bytes, IsTextOrNone}
+use Rattle.ldap_ber.specs.Element.{element_bytes}
+use Rattle.ldap_ber.specs.Fields.{HasField, HasText, HasPart, HasTextOrNone, HasOctetsOrNone, HasFlagOrFalse, BeginsOtherwise, Seq}
+use Rattle.ldap_ber.specs.Rows.{row_bytes}
+use Rattle.ldap_ber.specs.Written.{optional_bytes, flag_or_false_bytes, IsTextOrNone}
 use Rattle.ldap_filter.specs.Item.{Comparison, equal, at_least, at_most, approximate, SubstringsValue, ExtensibleValue, Item, comparison, substrings, presence, extensible}
 
 -- the first octet of each comparison (RFC 4511 4.5.1)

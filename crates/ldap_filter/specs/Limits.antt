@@ -1,10 +1,10 @@
 -- What reading finds within the limits, and which limit it meets.
 use Rattle.std.specs.Prelude.{◌≡◌, ℕ, suc, ◌+◌, ◌≤◌, ◌⊎◌, List, ◌++◌}
-use Rattle.ldap_fields.specs.declared.fault.MsgFault.{MsgFault}
-use Rattle.ldap_fields.specs.declared.fault.MsgFault.TheVariants.{TooLarge, NotAMessage, TooDeep, TooManyItems, NoMemory}
+use Rattle.ldap_ber.specs.declared.message_fault.MsgFault.{MsgFault}
+use Rattle.ldap_ber.specs.declared.message_fault.MsgFault.TheVariants.{TooLarge, NotAMessage, TooDeep, TooManyItems, NoMemory}
 use Rattle.ldap_filter.specs.Tree.{Tree, Trees, counts}
 use Rattle.ldap_filter.specs.Grammar.{IsFilter, AreFilters}
-use Rattle.ldap_fields.specs.Fields.{HasField}
+use Rattle.ldap_ber.specs.Fields.{HasField}
 
 -- the first octet of some filter
 abbrev pub IsOctet : ℕ → Type 0

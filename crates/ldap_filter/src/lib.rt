@@ -19,7 +19,7 @@ mod writing_item;
 
 pub use copying::copy_filter;
 pub use item::{MatchingRuleAssertion, SubstringFilter};
-pub use ldap_fields::{
+pub use ldap_ber::{
     BerFault, MsgFault, WriteError, copied, element, elements, field, flag_field, has_first,
     header, integer_field, number_field, octets_field, optional_octets, put_flag, put_number,
     put_optional_octets, put_texts, small_integer, text_field, texts_field, write, write_integer,

@@ -2,11 +2,11 @@
 
 ghost use Rattle.std.specs.Prelude.{ℕ, List, IfOk, IfErr, map};
 ghost use Rattle.std.specs.Option.{option_map};
-ghost use Rattle.ldap_fields.specs.Faults.{IsPlainFault};
+ghost use Rattle.ldap_ber.specs.Faults.{IsPlainFault};
 ghost use Rattle.ldap_filter.specs.Item.{SubstringsValue};
 ghost use Rattle.ldap_filter.specs.ItemGrammar.{AreAnyParts, AreParts};
 
-use ldap_fields::{MsgFault, has_first, octets_field, optional_octets};
+use ldap_ber::{MsgFault, has_first, octets_field, optional_octets};
 use std::alloc::Global;
 
 /// The parts `any` at the front, and the octets after them.

@@ -11,7 +11,7 @@ ghost use Rattle.ldap_filter.specs.private.Limits.{Reads, ReadsRow, IsRowFault};
 
 use crate::reading_item::item_of;
 use crate::tree::Filter;
-use ldap_fields::{MsgFault, element};
+use ldap_ber::{MsgFault, element};
 use std::alloc::Global;
 
 /// How deep a filter may be: an item is 1 deep, and `and`, `or` and `not` add 1.

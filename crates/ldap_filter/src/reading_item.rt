@@ -1,7 +1,7 @@
 //! Reads an item.
 
 ghost use Rattle.std.specs.Prelude.{◌≡◌, ℕ, List, IfOk, IfErr, string_bytes};
-ghost use Rattle.ldap_fields.specs.Faults.{IsPlainFault};
+ghost use Rattle.ldap_ber.specs.Faults.{IsPlainFault};
 ghost use Rattle.ldap_filter.specs.Item.{Comparison, SubstringsValue, ExtensibleValue, Item};
 ghost use Rattle.ldap_filter.specs.ItemView.{substrings_view, extensible_view};
 ghost use Rattle.ldap_filter.specs.ItemGrammar.{comparison_octet, item_octet, IsAssertion, IsSubstrings, IsExtensible, IsItem};
@@ -11,7 +11,7 @@ ghost use Rattle.ldap_filter.specs.private.Limits.{IsItemTree};
 use crate::item::{MatchingRuleAssertion, SubstringFilter};
 use crate::parts::parts_of;
 use crate::tree::Filter;
-use ldap_fields::{MsgFault, field, flag_or_false, octets_field, optional_text, text, text_field};
+use ldap_ber::{MsgFault, field, flag_or_false, octets_field, optional_text, text, text_field};
 use std::alloc::Global;
 
 /// A description and an assertion, and nothing after them (RFC 4511 4.1.6).

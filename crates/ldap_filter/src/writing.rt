@@ -8,7 +8,7 @@ ghost use Rattle.ldap_filter.specs.Grammar.{filter_content, filter_bytes, filter
 
 use crate::tree::Filter;
 use crate::writing_item::{put_assertion, put_extensible, put_substrings};
-use ldap_fields::{WriteError, write};
+use ldap_ber::{WriteError, write};
 use std::alloc::Global;
 
 #[cycle(write)]

@@ -1,13 +1,13 @@
 //! Writes an item's one spelling.
 
 ghost use Rattle.std.specs.Prelude.{◌≡◌, ◌<◌, ◌≤◌, ◌^◌, ◌%◌, ◌++◌, length, map, OnOk, OnErr, IsErrOf, string_bytes};
-ghost use Rattle.ldap_fields.specs.ldap_ber.Element.{element_bytes};
-ghost use Rattle.ldap_fields.specs.Rows.{row_bytes};
+ghost use Rattle.ldap_ber.specs.Element.{element_bytes};
+ghost use Rattle.ldap_ber.specs.Rows.{row_bytes};
 ghost use Rattle.ldap_filter.specs.ItemView.{substrings_view, extensible_view};
 ghost use Rattle.ldap_filter.specs.ItemGrammar.{assertion_content, parts_content, substrings_content, extensible_content};
 
 use crate::item::{MatchingRuleAssertion, SubstringFilter};
-use ldap_fields::{WriteError, put_optional_octets, put_optional_text, write};
+use ldap_ber::{WriteError, put_optional_octets, put_optional_text, write};
 use std::alloc::Global;
 
 /// Writes a description and an assertion.

@@ -9,7 +9,7 @@ use Rattle.ldap_msg.specs.ldap_ber.Header.{IsHeader, IsHeaderFront}
 use Rattle.ldap_msg.specs.ldap_ber.Reading.{IsFault as IsBerFault}
 use Rattle.ldap_msg.specs.ldap_ber.declared.fault.BerFault.{BerFault}
 use Rattle.ldap_msg.specs.ldap_ber.declared.fault.BerFault.TheVariants.{HighTag, Short, Indefinite, LengthTooLong}
-use Rattle.ldap_msg.specs.ldap_fields.declared.fault.MsgFault.{MsgFault}
+use Rattle.ldap_msg.specs.ldap_ber.declared.message_fault.MsgFault.{MsgFault}
 use Rattle.ldap_msg.specs.Limits.{IsFault}
 use Rattle.ldap_msg.specs.View.{view}
 use Rattle.ldap_msg.specs.declared.message.Message.{Message}

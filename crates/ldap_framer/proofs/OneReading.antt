@@ -8,8 +8,8 @@ use Rattle.ldap_msg.specs.ldap_ber.private.Reading.{length_at}
 use Rattle.ldap_msg.specs.ldap_ber.declared.fault.BerFault.{BerFault}
 use Rattle.ldap_msg.proofs.ldap_ber.Elements.{one}
 use Rattle.ldap_msg.proofs.ldap_ber.Lengths.{length_again}
-use Rattle.ldap_msg.specs.ldap_fields.declared.fault.MsgFault.{MsgFault}
-use Rattle.ldap_msg.specs.ldap_fields.declared.fault.MsgFault.TheVariants.{TooLarge, NotAMessage, TooDeep, TooManyItems, NoMemory}
+use Rattle.ldap_msg.specs.ldap_ber.declared.message_fault.MsgFault.{MsgFault}
+use Rattle.ldap_msg.specs.ldap_ber.declared.message_fault.MsgFault.TheVariants.{TooLarge, NotAMessage, TooDeep, TooManyItems, NoMemory}
 use Rattle.ldap_msg.specs.Messages.{MessageValue}
 use Rattle.ldap_msg.specs.Grammar.{IsMessage}
 use Rattle.ldap_msg.specs.Limits.{IsFault}

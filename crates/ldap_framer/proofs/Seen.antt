@@ -1,8 +1,8 @@
 -- What a framer has seen, with one more piece, and with one message handed out.
 use Rattle.std.proofs.Common.{◌≡◌, ℕ, List, [], ◌∷◌, ◌++◌, Option, Some, None, Result, Ok, Err, refl, sym, ap, subst, ◌∙◌, ◌⊎◌, inl, inr, append_assoc}
 use Rattle.std.specs.Prelude.{OnOk, IfErr}
-use Rattle.ldap_msg.specs.ldap_fields.declared.fault.MsgFault.{MsgFault}
-use Rattle.ldap_msg.specs.ldap_fields.declared.fault.MsgFault.TheVariants.{TooLarge, NotAMessage, TooDeep, TooManyItems, NoMemory}
+use Rattle.ldap_msg.specs.ldap_ber.declared.message_fault.MsgFault.{MsgFault}
+use Rattle.ldap_msg.specs.ldap_ber.declared.message_fault.MsgFault.TheVariants.{TooLarge, NotAMessage, TooDeep, TooManyItems, NoMemory}
 use Rattle.ldap_msg.specs.Messages.{MessageValue}
 use Rattle.ldap_framer.specs.Stream.{BeginsNoFrame, HasBadFrame, IsStop, awaits, stops, Reads}
 use Rattle.ldap_framer.specs.Framed.{Framed, ending_of, HasSeen, Takes, IsFeedFault}

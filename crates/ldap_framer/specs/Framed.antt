@@ -1,6 +1,6 @@
 -- What a framer holds, and what a piece makes of it.
 use Rattle.std.specs.Prelude.{◌≡◌, ℕ, List, ◌++◌, Option, Some, None}
-use Rattle.ldap_msg.specs.ldap_fields.declared.fault.MsgFault.{MsgFault}
+use Rattle.ldap_msg.specs.ldap_ber.declared.message_fault.MsgFault.{MsgFault}
 use Rattle.ldap_msg.specs.Messages.{MessageValue}
 use Rattle.ldap_framer.specs.Stream.{Ending, awaits, stops, Reads}
 use Rattle.ldap_framer.specs.declared.fault.FrameFault.{FrameFault}

@@ -2,8 +2,8 @@
 use Rattle.std.proofs.Common.{◌≡◌, ℕ, ◌+◌, ◌<◌, ◌≤◌, List, [], ◌∷◌, ◌++◌, length, min, ap, ◌∙◌, ◌⊎◌, inl, inr, append_assoc, arith}
 use Rattle.std.proofs.lemmas.List.{length-append}
 use Rattle.ldap_requests.specs.ldap_ber.Element.{length_octets, element_bytes}
-use Rattle.ldap_requests.specs.ldap_fields.Written.{number_bytes}
-use Rattle.ldap_requests.proofs.ldap_fields.Written.{element_long}
+use Rattle.ldap_requests.specs.ldap_ber.Written.{number_bytes}
+use Rattle.ldap_requests.proofs.ldap_ber.RowsWritten.{element_long}
 use Rattle.ldap_msg.specs.private.Written.{enveloped}
 
 -- the length of three parts, up to a limit

@@ -1,16 +1,16 @@
 -- What a part lacks, the message lacks: at each exit of a reader, behind the parts that it read.
 use Rattle.std.proofs.Common.{◌≡◌, ◌^◌, ℕ, List, [], sym, subst}
-use Rattle.ldap_requests.specs.ldap_fields.declared.fault.MsgFault.{MsgFault}
-use Rattle.ldap_requests.specs.ldap_fields.declared.fault.MsgFault.TheVariants.{TooLarge, NotAMessage, TooDeep, TooManyItems, NoMemory}
-use Rattle.ldap_requests.specs.ldap_fields.Fields.{HasField, HasNumber}
-use Rattle.ldap_requests.proofs.ldap_fields.Same.{step, same_field, number_unique}
+use Rattle.ldap_requests.specs.ldap_ber.declared.message_fault.MsgFault.{MsgFault}
+use Rattle.ldap_requests.specs.ldap_ber.declared.message_fault.MsgFault.TheVariants.{TooLarge, NotAMessage, TooDeep, TooManyItems, NoMemory}
+use Rattle.ldap_requests.specs.ldap_ber.Fields.{HasField, HasNumber}
+use Rattle.ldap_requests.proofs.ldap_ber.Same.{step, same_field, number_unique}
 use Rattle.ldap_updates.specs.ldap_parts.Values.{ControlValue}
 use Rattle.ldap_msg.specs.Messages.{OperationValue, MessageValue}
 use Rattle.ldap_updates.specs.ldap_parts.Grammar.{AreControls}
 use Rattle.ldap_msg.specs.Grammar.{operation_octet, IsOperation, HasOperation, IsIdFor, IsMessageContent, IsMessage}
 use Rattle.ldap_requests.specs.Limits.{FilterStandsAt, IsLimitFault}
 use Rattle.ldap_msg.specs.Limits.{OperationHasFilterAt, ContentHasFilterAt, HasFilterAt, IsFault}
-use Rattle.ldap_requests.proofs.ldap_fields.Parts.{number_part}
+use Rattle.ldap_requests.proofs.ldap_ber.Parts.{number_part}
 use Rattle.ldap_msg.proofs.Unique.{operation_unique}
 
 pub operation_inside : (o content rest : List ℕ) (first : ℕ) → HasField o first content rest → (op : OperationValue)

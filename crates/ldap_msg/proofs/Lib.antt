@@ -6,4 +6,3 @@ pub mod Spelled
 pub mod Encoded
 -- what layers above name of the crates below
 pub use Rattle.ldap_requests.proofs.ldap_ber as ldap_ber
-pub use Rattle.ldap_requests.proofs.ldap_fields as ldap_fields

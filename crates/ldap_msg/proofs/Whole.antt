@@ -1,10 +1,10 @@
 -- A message within the limits is read: what stands open at a filter's place is in the filter of the message.
 use Rattle.std.proofs.Common.{◌≡◌, ◌^◌, ◌<◌, ◌≤◌, ℕ, List, [], length, Result, Ok, Err, refl, sym, subst, arith}
 use Rattle.std.specs.Prelude.{MatchResult, IfOk, IfErr}
-use Rattle.ldap_requests.specs.ldap_fields.declared.fault.MsgFault.{MsgFault}
-use Rattle.ldap_requests.specs.ldap_fields.declared.fault.MsgFault.TheVariants.{TooLarge, NotAMessage, TooDeep, TooManyItems, NoMemory}
-use Rattle.ldap_requests.specs.ldap_fields.Fields.{HasField}
-use Rattle.ldap_requests.proofs.ldap_fields.Same.{step, same_field, number_unique}
+use Rattle.ldap_requests.specs.ldap_ber.declared.message_fault.MsgFault.{MsgFault}
+use Rattle.ldap_requests.specs.ldap_ber.declared.message_fault.MsgFault.TheVariants.{TooLarge, NotAMessage, TooDeep, TooManyItems, NoMemory}
+use Rattle.ldap_requests.specs.ldap_ber.Fields.{HasField}
+use Rattle.ldap_requests.proofs.ldap_ber.Same.{step, same_field, number_unique}
 use Rattle.ldap_requests.specs.ldap_filter.Limits.{Opens}
 use Rattle.ldap_requests.proofs.ldap_filter.Unique.{opens_within}
 use Rattle.ldap_requests.specs.Values.{SearchRequestValue}
@@ -13,7 +13,7 @@ use Rattle.ldap_msg.specs.Messages.{search, OperationValue, request, response, M
 use Rattle.ldap_msg.specs.Grammar.{operation_octet, IsOperation, IsMessageContent, IsMessage}
 use Rattle.ldap_requests.specs.Limits.{FilterStandsAt, IsLimitFault}
 use Rattle.ldap_msg.specs.Limits.{ContentHasFilterAt, IsFault, IsRequestWithin, IsWithin}
-use Rattle.ldap_requests.proofs.ldap_fields.Parts.{number_part}
+use Rattle.ldap_requests.proofs.ldap_ber.Parts.{number_part}
 use Rattle.ldap_requests.proofs.Unique.{Target, target_part, target_unique, Bounds, bounds_part, bounds_unique, target_of, bounds_of}
 use Rattle.ldap_msg.proofs.Choices.{is_search, request_same, no_response}
 use Rattle.ldap_msg.proofs.Unique.{content_one}

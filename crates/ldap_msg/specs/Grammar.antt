@@ -1,6 +1,6 @@
 -- The octets that spell a message (RFC 4511 4 and Appendix B; X.690 as RFC 4511 5.1 narrows it).
 use Rattle.std.specs.Prelude.{◌^◌, ◌≤◌, ℕ, List, []}
-use Rattle.ldap_requests.specs.ldap_fields.Fields.{Seq, HasNumber, HasPart}
+use Rattle.ldap_requests.specs.ldap_ber.Fields.{Seq, HasNumber, HasPart}
 use Rattle.ldap_updates.specs.ldap_parts.Grammar.{IsLdapResult, AreControls}
 use Rattle.ldap_requests.specs.Grammar.{IsBindRequest, IsUnbindRequest, IsSearchRequest, IsCompareRequest, IsAbandonRequest, IsExtendedRequest}
 use Rattle.ldap_updates.specs.Grammar.{IsModifyRequest, IsAddRequest, IsDelRequest, IsModifyDnRequest}

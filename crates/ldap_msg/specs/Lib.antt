@@ -7,7 +7,6 @@ pub mod HexLines
 pub mod private
 -- what layers above name of the crates below
 pub use Rattle.ldap_requests.specs.ldap_ber as ldap_ber
-pub use Rattle.ldap_requests.specs.ldap_fields as ldap_fields
 pub use Rattle.ldap_updates.specs.ldap_parts as ldap_parts
 pub use Rattle.ldap_requests.specs as ldap_requests
 pub use Rattle.ldap_responses.specs as ldap_responses

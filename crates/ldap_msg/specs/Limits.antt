@@ -1,8 +1,8 @@
 -- Where a filter stands in a message, and what each fault says of the octets.
 use Rattle.std.specs.Prelude.{◌^◌, ◌<◌, ◌≤◌, ◌⊎◌, ℕ, List, [], ◌∷◌, length}
-use Rattle.ldap_requests.specs.ldap_fields.declared.fault.MsgFault.{MsgFault}
-use Rattle.ldap_requests.specs.ldap_fields.declared.fault.MsgFault.TheVariants.{TooLarge, NotAMessage, TooDeep, TooManyItems, NoMemory}
-use Rattle.ldap_requests.specs.ldap_fields.Fields.{HasField, HasNumber}
+use Rattle.ldap_requests.specs.ldap_ber.declared.message_fault.MsgFault.{MsgFault}
+use Rattle.ldap_requests.specs.ldap_ber.declared.message_fault.MsgFault.TheVariants.{TooLarge, NotAMessage, TooDeep, TooManyItems, NoMemory}
+use Rattle.ldap_requests.specs.ldap_ber.Fields.{HasField, HasNumber}
 use Rattle.ldap_requests.specs.ldap_filter.Tree.{depth, count}
 use Rattle.ldap_requests.specs.ldap_filter.Limits.{Opens}
 use Rattle.ldap_msg.specs.Messages.{search, RequestValue, OperationValue, request, response, MessageValue}

@@ -2,7 +2,7 @@
 
 ghost use Rattle.std.specs.Prelude.{◌≡◌, ◌≤◌, ◌++◌, ℕ, List, length, map, IfOk, IfErr, OnOk, MatchResult};
 ghost use Rattle.std.specs.Bool.{OnTrue, OnFalse};
-ghost use Rattle.ldap_requests.specs.ldap_fields.Faults.{IsPlainFault};
+ghost use Rattle.ldap_requests.specs.ldap_ber.Faults.{IsPlainFault};
 ghost use Rattle.ldap_updates.specs.ldap_parts.Values.{ControlValue};
 ghost use Rattle.ldap_updates.specs.ldap_parts.View.{control_view};
 ghost use Rattle.ldap_updates.specs.ldap_parts.Grammar.{AreControls};

@@ -1,7 +1,7 @@
 //! Reads a response by its first octet.
 
 ghost use Rattle.std.specs.Prelude.{◌≡◌, IfOk, IfErr};
-ghost use Rattle.ldap_requests.specs.ldap_fields.Faults.{IsPlainFault};
+ghost use Rattle.ldap_requests.specs.ldap_ber.Faults.{IsPlainFault};
 ghost use Rattle.ldap_msg.specs.Messages.{ResponseValue};
 ghost use Rattle.ldap_msg.specs.View.{response_view};
 ghost use Rattle.ldap_msg.specs.Grammar.{response_octet, IsResponseContent};

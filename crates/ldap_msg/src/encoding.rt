@@ -2,7 +2,7 @@
 
 ghost use Rattle.std.specs.Prelude.{◌≡◌, ◌%◌, ◌^◌, ◌<◌, ◌≤◌, ◌++◌, ◌∷◌, ◌⊎◌, [], ℕ, List, drop, length, map, min, IfOk, IfErr, IsErrOf, OnOk, OnErr};
 ghost use Rattle.ldap_requests.specs.ldap_ber.Element.{length_octets, element_bytes};
-ghost use Rattle.ldap_requests.specs.ldap_fields.Written.{number_bytes};
+ghost use Rattle.ldap_requests.specs.ldap_ber.Written.{number_bytes};
 ghost use Rattle.ldap_responses.specs.Written.{entry_content};
 ghost use Rattle.ldap_msg.specs.Messages.{MessageValue, response, search_entry};
 ghost use Rattle.ldap_msg.specs.View.{entry_view, operation_view, view};

@@ -1,7 +1,7 @@
 //! Reads an update.
 
 ghost use Rattle.std.specs.Prelude.{◌≡◌, IfOk, IfErr, MatchResult};
-ghost use Rattle.ldap_updates.specs.ldap_fields.Faults.{IsPlainFault};
+ghost use Rattle.ldap_updates.specs.ldap_ber.Faults.{IsPlainFault};
 ghost use Rattle.ldap_op.specs.Values.{OpValue};
 ghost use Rattle.ldap_op.specs.View.{update_view};
 ghost use Rattle.ldap_op.specs.Grammar.{IsUpdate, IsOp};

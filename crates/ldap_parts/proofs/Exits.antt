@@ -1,12 +1,12 @@
 -- What a part lacks, the whole lacks: at each exit of a reader, behind the parts that it read.
 use Rattle.std.proofs.Common.{◌^◌, ℕ, Bool, Option, List}
-use Rattle.ldap_fields.specs.Fields.{HasField, HasText, HasNumber, HasPart, BeginsOtherwise, HasFlagOrFalse, HasOctetsOrNone}
-use Rattle.ldap_fields.specs.Rows.{AreRow, AreValues, AreElements, HasRowOrNone}
-use Rattle.ldap_fields.proofs.Same.{step, text_part, text_unique, number_unique, flag_or_false_unique, octets_or_none_unique}
-use Rattle.ldap_fields.proofs.RowLemmas.{part_inside, row_there}
+use Rattle.ldap_ber.specs.Fields.{HasField, HasText, HasNumber, HasPart, BeginsOtherwise, HasFlagOrFalse, HasOctetsOrNone}
+use Rattle.ldap_ber.specs.Rows.{AreRow, AreValues, AreElements, HasRowOrNone}
+use Rattle.ldap_ber.proofs.Same.{step, text_part, text_unique, number_unique, flag_or_false_unique, octets_or_none_unique}
+use Rattle.ldap_ber.proofs.RowLemmas.{part_inside, row_there}
 use Rattle.ldap_parts.specs.Values.{PartialAttributeValue, LdapResultValue, ControlValue}
 use Rattle.ldap_parts.specs.Grammar.{IsPartialAttribute, IsOutcome, HasLdapResult, IsLdapResult, IsControl, HasControl, AreControls}
-use Rattle.ldap_fields.proofs.Parts.{number_part, flag_or_false_part, octets_or_none_part, values_part, values_part_unique}
+use Rattle.ldap_ber.proofs.Parts.{number_part, flag_or_false_part, octets_or_none_part, values_part, values_part_unique}
 use Rattle.ldap_parts.proofs.Unique.{Outcome, outcome_part, outcome_unique, outcome_of, result_unique, controls_part, controls_unique}
 
 pub attribute_values : (o x d : List ℕ) → HasText o 4 d x → (a : PartialAttributeValue) × IsPartialAttribute a o →

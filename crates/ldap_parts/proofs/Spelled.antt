@@ -2,15 +2,15 @@
 use Rattle.std.proofs.Common.{◌≡◌, ◌^◌, ℕ, List, [], ◌++◌, sym, ap, subst, ◌∙◌, append_assoc, arith}
 use Rattle.std.specs.Str.{IsUtf8}
 use Rattle.std.proofs.lemmas.List.{append-nil}
-use Rattle.ldap_fields.specs.ldap_ber.Element.{element_bytes}
-use Rattle.ldap_fields.specs.Fields.{HasPart, BeginsOtherwise}
-use Rattle.ldap_fields.specs.Rows.{AreValues, none, row_bytes}
-use Rattle.ldap_fields.proofs.Same.{text_part}
+use Rattle.ldap_ber.specs.Element.{element_bytes}
+use Rattle.ldap_ber.specs.Fields.{HasPart, BeginsOtherwise}
+use Rattle.ldap_ber.specs.Rows.{AreValues, none, row_bytes}
+use Rattle.ldap_ber.proofs.Same.{text_part}
 use Rattle.ldap_parts.specs.Values.{PartialAttributeValue, LdapResultValue, ControlValue}
 use Rattle.ldap_parts.specs.Grammar.{IsPartialAttribute, HasPartialAttribute, HasLdapResult, IsLdapResult, IsControl, HasControl}
-use Rattle.ldap_fields.specs.Written.{number_bytes, flag_or_false_bytes, optional_bytes, row_or_none_bytes}
+use Rattle.ldap_ber.specs.Written.{number_bytes, flag_or_false_bytes, optional_bytes, row_or_none_bytes}
 use Rattle.ldap_parts.specs.Written.{attribute_content, attribute_bytes, result_content, control_content, control_bytes, IsResultInRange}
-use Rattle.ldap_fields.proofs.Spelled.{IsShort, inner, left, right, text, number, small_number, part, values, optional_otherwise, row_or_none, octets_or_none, flag_or_false, regroup}
+use Rattle.ldap_ber.proofs.Spelled.{IsShort, inner, left, right, text, number, small_number, part, values, optional_otherwise, row_or_none, octets_or_none, flag_or_false, regroup}
 
 pub attribute_inside : (a : PartialAttributeValue) → IsUtf8 a.description → IsShort (attribute_content a) →
     IsPartialAttribute a (attribute_content a)

@@ -1,12 +1,12 @@
 -- Each part has one value at the front of octets, and one rest.
 use Rattle.std.proofs.Common.{◌≡◌, ◌^◌, ℕ, Bool, Option, List, ap, ap₂, ◌∙◌}
-use Rattle.ldap_fields.specs.Fields.{HasPart}
-use Rattle.ldap_fields.specs.Rows.{AreRow, HasRowOrNone}
-use Rattle.ldap_fields.proofs.Same.{IsUnique, IsSome, step, text_part, text_unique, number_unique, flag_or_false_unique, octets_or_none_unique}
-use Rattle.ldap_fields.proofs.RowLemmas.{IsOneValue, part_unique, part_some, row_unique, row_or_none_unique, texts_or_none_unique}
+use Rattle.ldap_ber.specs.Fields.{HasPart}
+use Rattle.ldap_ber.specs.Rows.{AreRow, HasRowOrNone}
+use Rattle.ldap_ber.proofs.Same.{IsUnique, IsSome, step, text_part, text_unique, number_unique, flag_or_false_unique, octets_or_none_unique}
+use Rattle.ldap_ber.proofs.RowLemmas.{IsOneValue, part_unique, part_some, row_unique, row_or_none_unique, texts_or_none_unique}
 use Rattle.ldap_parts.specs.Values.{PartialAttributeValue, LdapResultValue, ControlValue}
 use Rattle.ldap_parts.specs.Grammar.{IsPartialAttribute, HasPartialAttribute, IsOutcome, HasLdapResult, IsLdapResult, IsControl, HasControl, AreControls}
-use Rattle.ldap_fields.proofs.Parts.{number_part, flag_or_false_part, octets_or_none_part, values_part, values_part_unique}
+use Rattle.ldap_ber.proofs.Parts.{number_part, flag_or_false_part, octets_or_none_part, values_part, values_part_unique}
 
 attribute_same : (v w : PartialAttributeValue) → v.description ≡ w.description → v.values ≡ w.values → v ≡ w
 attribute_same v w d vs =

@@ -1,8 +1,8 @@
 -- The octets that spell what several operations share (RFC 4511 4.1). Each part is a relation of a value, the octets
 -- where it begins, and the octets that follow it.
 use Rattle.std.specs.Prelude.{◌^◌, ℕ, List}
-use Rattle.ldap_fields.specs.Fields.{Seq, HasText, HasNumber, HasPart, HasFlagOrFalse, HasOctetsOrNone}
-use Rattle.ldap_fields.specs.Rows.{AreValues, AreElements, HasRowOrNone}
+use Rattle.ldap_ber.specs.Fields.{Seq, HasText, HasNumber, HasPart, HasFlagOrFalse, HasOctetsOrNone}
+use Rattle.ldap_ber.specs.Rows.{AreValues, AreElements, HasRowOrNone}
 use Rattle.ldap_parts.specs.Values.{PartialAttributeValue, LdapResultValue, ControlValue}
 
 -- PartialAttribute ::= SEQUENCE { type AttributeDescription, vals SET OF AttributeValue } (RFC 4511 4.1.7)

@@ -2,10 +2,10 @@
 use Rattle.std.specs.Prelude.{◌^◌, ◌<◌, ℕ, List, ◌++◌}
 use Rattle.std.specs.Str.{IsUtf8}
 use Rattle.std.specs.List.{AllByRecursion}
-use Rattle.ldap_fields.specs.ldap_ber.Element.{element_bytes}
-use Rattle.ldap_fields.specs.Rows.{row_bytes}
+use Rattle.ldap_ber.specs.Element.{element_bytes}
+use Rattle.ldap_ber.specs.Rows.{row_bytes}
 use Rattle.ldap_parts.specs.Values.{PartialAttributeValue, LdapResultValue, ControlValue}
-use Rattle.ldap_fields.specs.Written.{number_bytes, flag_or_false_bytes, optional_bytes, row_or_none_bytes}
+use Rattle.ldap_ber.specs.Written.{number_bytes, flag_or_false_bytes, optional_bytes, row_or_none_bytes}
 
 -- the content of a partial attribute
 abbrev pub attribute_content : PartialAttributeValue → List ℕ

@@ -1,11 +1,11 @@
 //! An attribute: a description and its values.
 ghost use Rattle.std.specs.Prelude.{◌≡◌, ◌^◌, ◌≤◌, ◌++◌, drop, length, min, OnOk, IsErrOf};
-ghost use Rattle.ldap_fields.specs.ldap_ber.Element.{element_bytes};
-ghost use Rattle.ldap_fields.specs.Rows.{row_bytes};
+ghost use Rattle.ldap_ber.specs.Element.{element_bytes};
+ghost use Rattle.ldap_ber.specs.Rows.{row_bytes};
 ghost use Rattle.ldap_parts.specs.Values.{PartialAttributeValue};
 ghost use Rattle.ldap_parts.specs.View.{attribute_view};
 
-use ldap_fields::{WriteError, put_value_set, values_length};
+use ldap_ber::{WriteError, put_value_set, values_length};
 
 /// PartialAttribute (RFC 4511 4.1.7): a description and its values, perhaps none.
 #[derive(Debug)]

@@ -1,15 +1,15 @@
 //! Reads attributes.
 
 ghost use Rattle.std.specs.Prelude.{ℕ, List, IfOk, IfErr, map, string_bytes};
-ghost use Rattle.ldap_fields.specs.Faults.{IsPlainFault};
-ghost use Rattle.ldap_fields.specs.Fields.{HasPart};
-ghost use Rattle.ldap_fields.specs.Rows.{AreRow};
+ghost use Rattle.ldap_ber.specs.Faults.{IsPlainFault};
+ghost use Rattle.ldap_ber.specs.Fields.{HasPart};
+ghost use Rattle.ldap_ber.specs.Rows.{AreRow};
 ghost use Rattle.ldap_parts.specs.Values.{PartialAttributeValue};
 ghost use Rattle.ldap_parts.specs.View.{attribute_view};
 ghost use Rattle.ldap_parts.specs.Grammar.{IsPartialAttribute, HasPartialAttribute};
 
 use crate::attribute::PartialAttribute;
-use ldap_fields::{MsgFault, elements, field, text_field, values_field};
+use ldap_ber::{MsgFault, elements, field, text_field, values_field};
 use std::alloc::Global;
 
 /// The attribute whose content this is.

@@ -1,16 +1,14 @@
 //! Reads controls.
 
 ghost use Rattle.std.specs.Prelude.{ℕ, List, IfOk, IfErr, map};
-ghost use Rattle.ldap_fields.specs.Faults.{IsPlainFault};
-ghost use Rattle.ldap_fields.specs.Rows.{AreRow, HasRowOrNone};
+ghost use Rattle.ldap_ber.specs.Faults.{IsPlainFault};
+ghost use Rattle.ldap_ber.specs.Rows.{AreRow, HasRowOrNone};
 ghost use Rattle.ldap_parts.specs.Values.{ControlValue};
 ghost use Rattle.ldap_parts.specs.View.{control_view};
 ghost use Rattle.ldap_parts.specs.Grammar.{IsControl, HasControl, AreControls};
 
 use crate::control::Control;
-use ldap_fields::{
-    MsgFault, elements, field, flag_or_false, has_first, optional_octets, text_field,
-};
+use ldap_ber::{MsgFault, elements, field, flag_or_false, has_first, optional_octets, text_field};
 use std::alloc::Global;
 
 /// The control whose content this is.

@@ -1,13 +1,13 @@
 //! Reads results.
 
 ghost use Rattle.std.specs.Prelude.{ℕ, List, IfOk, IfErr, string_bytes};
-ghost use Rattle.ldap_fields.specs.Faults.{IsPlainFault};
+ghost use Rattle.ldap_ber.specs.Faults.{IsPlainFault};
 ghost use Rattle.ldap_parts.specs.Values.{LdapResultValue};
 ghost use Rattle.ldap_parts.specs.View.{result_view};
 ghost use Rattle.ldap_parts.specs.Grammar.{IsOutcome, HasLdapResult, IsLdapResult};
 
 use crate::result::{LdapResult, ResultCode};
-use ldap_fields::{MsgFault, elements, number_field, text_field, texts_or_none};
+use ldap_ber::{MsgFault, elements, number_field, text_field, texts_or_none};
 use std::alloc::Global;
 
 /// The code and two texts at the front, and the octets after them.

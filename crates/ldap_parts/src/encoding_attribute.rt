@@ -1,13 +1,13 @@
 //! Writes attributes, each octet once.
 
 ghost use Rattle.std.specs.Prelude.{◌≡◌, ◌^◌, ◌≤◌, ◌++◌, map, drop, length, min, IfOk, OnOk, IsErrOf};
-ghost use Rattle.ldap_fields.specs.ldap_ber.Element.{element_bytes};
-ghost use Rattle.ldap_fields.specs.Rows.{row_bytes};
+ghost use Rattle.ldap_ber.specs.Element.{element_bytes};
+ghost use Rattle.ldap_ber.specs.Rows.{row_bytes};
 ghost use Rattle.ldap_parts.specs.View.{attribute_view};
 ghost use Rattle.ldap_parts.specs.Written.{attribute_content, attribute_bytes};
 
 use crate::attribute::{AttributeParts, PartialAttribute};
-use ldap_fields::{WriteError, add_lengths, element_length, write, write_head};
+use ldap_ber::{WriteError, add_lengths, element_length, write, write_head};
 use std::alloc::Global;
 
 /// How many octets the content of an attribute takes; 2^32 where there are more.

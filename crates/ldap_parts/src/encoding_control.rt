@@ -1,13 +1,13 @@
 //! Writes controls.
 
 ghost use Rattle.std.specs.Prelude.{◌≡◌, ◌^◌, ◌≤◌, ◌++◌, map, drop, length, IfOk, OnErr, OnOk, IsErrOf};
-ghost use Rattle.ldap_fields.specs.Rows.{row_bytes};
+ghost use Rattle.ldap_ber.specs.Rows.{row_bytes};
 ghost use Rattle.ldap_parts.specs.View.{control_view};
 ghost use Rattle.ldap_parts.specs.Written.{control_content, control_bytes};
-ghost use Rattle.ldap_fields.specs.Written.{row_or_none_bytes};
+ghost use Rattle.ldap_ber.specs.Written.{row_or_none_bytes};
 
 use crate::control::Control;
-use ldap_fields::{WriteError, write};
+use ldap_ber::{WriteError, write};
 use std::alloc::Global;
 
 /// The content of a control's element: a criticality that is false is left out.

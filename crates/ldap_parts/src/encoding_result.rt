@@ -2,13 +2,13 @@
 
 ghost use Rattle.std.specs.Prelude.{◌≡◌, ◌^◌, ◌≤◌, ◌++◌, map, length, string_bytes, IfOk, OnOk, IsErrOf};
 ghost use Rattle.std.specs.Option.{option_map};
-ghost use Rattle.ldap_fields.specs.ldap_ber.Element.{element_bytes};
+ghost use Rattle.ldap_ber.specs.Element.{element_bytes};
 ghost use Rattle.ldap_parts.specs.View.{result_view};
-ghost use Rattle.ldap_fields.specs.Written.{row_or_none_bytes, optional_bytes};
+ghost use Rattle.ldap_ber.specs.Written.{row_or_none_bytes, optional_bytes};
 ghost use Rattle.ldap_parts.specs.Written.{result_content};
 
 use crate::result::LdapResult;
-use ldap_fields::{WriteError, put_number, put_texts, write};
+use ldap_ber::{WriteError, put_number, put_texts, write};
 use std::alloc::Global;
 
 /// Writes URIs, or nothing where there are none.

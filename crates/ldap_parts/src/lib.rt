@@ -28,7 +28,7 @@ pub use encoding_attribute::{
 };
 pub use encoding_control::put_controls;
 pub use encoding_result::result_content;
-pub use ldap_fields::{
+pub use ldap_ber::{
     MsgFault, WriteError, add_lengths, copied, element, element_length, elements, field,
     flag_field, number_field, number_length, optional_octets, optional_text, put_flag, put_number,
     put_optional_octets, put_optional_text, text, text_field, write, write_head,

@@ -5,13 +5,13 @@ use Rattle.std.specs.Str.{IsUtf8}
 use Rattle.std.proofs.lemmas.List.{append-nil}
 use Rattle.ldap_filter.specs.ldap_ber.Element.{element_bytes}
 use Rattle.ldap_filter.specs.ldap_ber.Values.{integer_octets}
-use Rattle.ldap_filter.specs.ldap_fields.Fields.{HasField, HasText, HasInteger, HasPart, BeginsOtherwise, HasOctetsOrNone}
-use Rattle.ldap_filter.specs.ldap_fields.Rows.{AreElements, none}
-use Rattle.ldap_filter.specs.ldap_fields.Written.{optional_bytes}
-use Rattle.ldap_filter.proofs.ldap_fields.Same.{IsUnique, step, same_field, field_front, octets_unique, text_part, text_unique, integer_unique, octets_or_none_unique}
-use Rattle.ldap_filter.proofs.ldap_fields.RowLemmas.{IsOneValue, part_unique}
-use Rattle.ldap_filter.proofs.ldap_fields.Parts.{integer_part, octets_or_none_part}
-use Rattle.ldap_filter.proofs.ldap_fields.Spelled.{IsShort, field, inner, left, right, text, integer, part, octets_or_none}
+use Rattle.ldap_filter.specs.ldap_ber.Fields.{HasField, HasText, HasInteger, HasPart, BeginsOtherwise, HasOctetsOrNone}
+use Rattle.ldap_filter.specs.ldap_ber.Rows.{AreElements, none}
+use Rattle.ldap_filter.specs.ldap_ber.Written.{optional_bytes}
+use Rattle.ldap_filter.proofs.ldap_ber.Same.{IsUnique, step, same_field, field_front, octets_unique, text_part, text_unique, integer_unique, octets_or_none_unique}
+use Rattle.ldap_filter.proofs.ldap_ber.RowLemmas.{IsOneValue, part_unique}
+use Rattle.ldap_filter.proofs.ldap_ber.Parts.{integer_part, octets_or_none_part}
+use Rattle.ldap_filter.proofs.ldap_ber.Spelled.{IsShort, field, inner, left, right, text, integer, part, octets_or_none}
 use Rattle.ldap_requests.specs.Values.{SaslCredentialsValue, AuthenticationValue, simple, sasl, BindRequestValue}
 use Rattle.ldap_requests.specs.Grammar.{IsSaslCredentials, HasAuthentication, IsBindRequest}
 use Rattle.ldap_requests.specs.Written.{sasl_content, authentication_bytes, bind_content, IsAuthenticationInRange, IsBindInRange}

@@ -3,12 +3,12 @@ use Rattle.std.proofs.Common.{◌≡◌, ℕ, List, [], ◌++◌, ap, subst, ◌
 use Rattle.std.specs.Str.{IsUtf8}
 use Rattle.std.proofs.lemmas.List.{append-nil}
 use Rattle.ldap_filter.specs.ldap_ber.Element.{element_bytes}
-use Rattle.ldap_filter.specs.ldap_fields.Fields.{HasField, HasText, HasPart}
-use Rattle.ldap_filter.specs.ldap_fields.Rows.{AreElements, none}
-use Rattle.ldap_filter.proofs.ldap_fields.Same.{IsUnique, step, octets_unique, text_part, text_unique}
-use Rattle.ldap_filter.proofs.ldap_fields.RowLemmas.{IsOneValue, part_unique}
-use Rattle.ldap_filter.proofs.ldap_fields.Parts.{octets_part}
-use Rattle.ldap_filter.proofs.ldap_fields.Spelled.{IsShort, field, inner, left, right, text, part}
+use Rattle.ldap_filter.specs.ldap_ber.Fields.{HasField, HasText, HasPart}
+use Rattle.ldap_filter.specs.ldap_ber.Rows.{AreElements, none}
+use Rattle.ldap_filter.proofs.ldap_ber.Same.{IsUnique, step, octets_unique, text_part, text_unique}
+use Rattle.ldap_filter.proofs.ldap_ber.RowLemmas.{IsOneValue, part_unique}
+use Rattle.ldap_filter.proofs.ldap_ber.Parts.{octets_part}
+use Rattle.ldap_filter.proofs.ldap_ber.Spelled.{IsShort, field, inner, left, right, text, part}
 use Rattle.ldap_requests.specs.Values.{AssertionValue, CompareRequestValue}
 use Rattle.ldap_requests.specs.Grammar.{IsAva, IsCompareRequest}
 use Rattle.ldap_requests.specs.Written.{ava_content, compare_content, IsCompareInRange}

@@ -1,11 +1,11 @@
 -- What a part lacks, the request lacks: at each exit of a reader, behind the parts that it read.
 use Rattle.std.proofs.Common.{◌≡◌, ◌^◌, ℕ, Bool, List, ◌++◌, refl, subst}
-use Rattle.ldap_filter.specs.ldap_fields.declared.fault.MsgFault.{MsgFault}
-use Rattle.ldap_filter.specs.ldap_fields.declared.fault.MsgFault.TheVariants.{TooLarge, NotAMessage, TooDeep, TooManyItems, NoMemory}
-use Rattle.ldap_filter.specs.ldap_fields.Faults.{IsPlainFault}
-use Rattle.ldap_filter.specs.ldap_fields.Fields.{Seq, HasText, HasNumber, HasFlag, HasPart}
-use Rattle.ldap_filter.specs.ldap_fields.Rows.{AreTexts, AreElements}
-use Rattle.ldap_filter.proofs.ldap_fields.Same.{step, text_part, text_unique, number_unique}
+use Rattle.ldap_filter.specs.ldap_ber.declared.message_fault.MsgFault.{MsgFault}
+use Rattle.ldap_filter.specs.ldap_ber.declared.message_fault.MsgFault.TheVariants.{TooLarge, NotAMessage, TooDeep, TooManyItems, NoMemory}
+use Rattle.ldap_filter.specs.ldap_ber.Faults.{IsPlainFault}
+use Rattle.ldap_filter.specs.ldap_ber.Fields.{Seq, HasText, HasNumber, HasFlag, HasPart}
+use Rattle.ldap_filter.specs.ldap_ber.Rows.{AreTexts, AreElements}
+use Rattle.ldap_filter.proofs.ldap_ber.Same.{step, text_part, text_unique, number_unique}
 use Rattle.ldap_filter.specs.Tree.{Tree}
 use Rattle.ldap_filter.specs.Grammar.{IsFilter, HasFilter}
 use Rattle.ldap_filter.specs.Limits.{IsFault as IsFilterFault}
@@ -14,7 +14,7 @@ use Rattle.ldap_requests.specs.Grammar.{scope_number, deref_number, IsTarget, Is
 use Rattle.ldap_requests.specs.Limits.{FilterStandsAt, IsLimitFault}
 use Rattle.ldap_requests.specs.declared.search.Scope.{Scope}
 use Rattle.ldap_requests.specs.declared.search.DerefAliases.{DerefAliases}
-use Rattle.ldap_filter.proofs.ldap_fields.Parts.{number_part, texts_part, texts_part_unique}
+use Rattle.ldap_filter.proofs.ldap_ber.Parts.{number_part, texts_part, texts_part_unique}
 use Rattle.ldap_requests.proofs.Unique.{Target, target_part, target_unique, Bounds, bounds_part, bounds_unique, filter_unique, target_of, bounds_of}
 
 pub target_scope : (o x t : List ℕ) → HasText o 4 t x → (base : List ℕ) × (scope : Scope) × (deref : DerefAliases)

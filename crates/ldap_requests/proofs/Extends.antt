@@ -5,13 +5,13 @@ use Rattle.std.proofs.lemmas.List.{append-nil}
 use Rattle.ldap_filter.specs.ldap_ber.Element.{element_bytes}
 use Rattle.ldap_filter.specs.ldap_ber.Values.{integer_octets, IsLong}
 use Rattle.ldap_filter.proofs.ldap_ber.Digits.{is_content}
-use Rattle.ldap_filter.specs.ldap_fields.Fields.{HasText, HasOctetsOrNone}
-use Rattle.ldap_filter.specs.ldap_fields.Rows.{AreElements, none}
-use Rattle.ldap_filter.specs.ldap_fields.Written.{optional_bytes}
-use Rattle.ldap_filter.proofs.ldap_fields.Same.{step, text_unique, octets_or_none_unique, integer_one}
-use Rattle.ldap_filter.proofs.ldap_fields.RowLemmas.{IsOneValue}
-use Rattle.ldap_filter.proofs.ldap_fields.Parts.{tagged_text_part, octets_or_none_part}
-use Rattle.ldap_filter.proofs.ldap_fields.Spelled.{IsShort, inner, left, right, tagged_text, octets_or_none}
+use Rattle.ldap_filter.specs.ldap_ber.Fields.{HasText, HasOctetsOrNone}
+use Rattle.ldap_filter.specs.ldap_ber.Rows.{AreElements, none}
+use Rattle.ldap_filter.specs.ldap_ber.Written.{optional_bytes}
+use Rattle.ldap_filter.proofs.ldap_ber.Same.{step, text_unique, octets_or_none_unique, integer_one}
+use Rattle.ldap_filter.proofs.ldap_ber.RowLemmas.{IsOneValue}
+use Rattle.ldap_filter.proofs.ldap_ber.Parts.{tagged_text_part, octets_or_none_part}
+use Rattle.ldap_filter.proofs.ldap_ber.Spelled.{IsShort, inner, left, right, tagged_text, octets_or_none}
 use Rattle.ldap_requests.specs.Values.{ExtendedRequestValue}
 use Rattle.ldap_requests.specs.Grammar.{IsExtendedRequest, IsAbandonRequest}
 use Rattle.ldap_requests.specs.Written.{extended_request_content, IsExtendedRequestInRange}

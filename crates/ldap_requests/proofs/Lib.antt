@@ -7,4 +7,3 @@ pub mod Extends
 -- what layers above name of the crates below
 pub use Rattle.ldap_filter.proofs.ldap_ber as ldap_ber
 pub use Rattle.ldap_filter.proofs as ldap_filter
-pub use Rattle.ldap_filter.proofs.ldap_fields as ldap_fields

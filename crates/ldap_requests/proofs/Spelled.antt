@@ -3,7 +3,7 @@ use Rattle.std.proofs.Common.{◌≡◌, ◌^◌, ◌<◌, ℕ, List, [], ◌++�
 use Rattle.std.specs.Str.{IsUtf8}
 use Rattle.std.proofs.lemmas.List.{append-nil}
 use Rattle.ldap_filter.specs.ldap_ber.Element.{element_bytes}
-use Rattle.ldap_filter.specs.ldap_fields.Rows.{AreTexts, none, row_bytes}
+use Rattle.ldap_filter.specs.ldap_ber.Rows.{AreTexts, none, row_bytes}
 use Rattle.ldap_filter.specs.Grammar.{filter_bytes, filter_content, octet_of}
 use Rattle.ldap_filter.proofs.Spelled.{written as filter_written}
 use Rattle.ldap_requests.specs.Values.{SearchRequestValue}
@@ -12,9 +12,9 @@ use Rattle.ldap_requests.specs.declared.search.Scope.{Scope}
 use Rattle.ldap_requests.specs.declared.search.Scope.TheVariants.{BaseObject, SingleLevel, WholeSubtree, SubordinateSubtree}
 use Rattle.ldap_requests.specs.declared.search.DerefAliases.{DerefAliases}
 use Rattle.ldap_requests.specs.declared.search.DerefAliases.TheVariants.{NeverDerefAliases, DerefInSearching, DerefFindingBaseObj, DerefAlways}
-use Rattle.ldap_filter.specs.ldap_fields.Written.{number_bytes, flag_octets}
+use Rattle.ldap_filter.specs.ldap_ber.Written.{number_bytes, flag_octets}
 use Rattle.ldap_requests.specs.Written.{target_bytes, bounds_bytes, search_content, IsSearchInRange}
-use Rattle.ldap_filter.proofs.ldap_fields.Spelled.{IsShort, inner, left, right, text, number, small_number, flag, part, texts, regroup, regroup_three}
+use Rattle.ldap_filter.proofs.ldap_ber.Spelled.{IsShort, inner, left, right, text, number, small_number, flag, part, texts, regroup, regroup_three}
 
 pub scope_below : (s : Scope) → scope_number s < 4
 scope_below BaseObject = omega arith

@@ -1,7 +1,7 @@
 -- Each part has one value at the front of octets, and one rest.
 use Rattle.std.proofs.Common.{◌≡◌, ◌^◌, ℕ, zero, suc, Bool, List, refl, sym, ap, ◌∙◌}
-use Rattle.ldap_filter.proofs.ldap_fields.Same.{IsUnique, step, text_part, text_unique, number_unique, flag_unique}
-use Rattle.ldap_filter.proofs.ldap_fields.RowLemmas.{IsOneValue}
+use Rattle.ldap_filter.proofs.ldap_ber.Same.{IsUnique, step, text_part, text_unique, number_unique, flag_unique}
+use Rattle.ldap_filter.proofs.ldap_ber.RowLemmas.{IsOneValue}
 use Rattle.ldap_filter.specs.Tree.{Tree}
 use Rattle.ldap_filter.specs.Grammar.{HasFilter}
 use Rattle.ldap_filter.proofs.Unique.{front_unique}
@@ -11,7 +11,7 @@ use Rattle.ldap_requests.specs.declared.search.Scope.{Scope}
 use Rattle.ldap_requests.specs.declared.search.Scope.TheVariants.{BaseObject, SingleLevel, WholeSubtree, SubordinateSubtree}
 use Rattle.ldap_requests.specs.declared.search.DerefAliases.{DerefAliases}
 use Rattle.ldap_requests.specs.declared.search.DerefAliases.TheVariants.{NeverDerefAliases, DerefInSearching, DerefFindingBaseObj, DerefAlways}
-use Rattle.ldap_filter.proofs.ldap_fields.Parts.{number_part, texts_part, texts_part_unique}
+use Rattle.ldap_filter.proofs.ldap_ber.Parts.{number_part, texts_part, texts_part_unique}
 
 abbrev scope_at : ℕ → Scope
 scope_at zero = BaseObject

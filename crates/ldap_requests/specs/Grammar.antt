@@ -2,8 +2,8 @@
 -- octets where it begins, and the octets that follow it.
 use Rattle.std.specs.Prelude.{◌≡◌, ℤ, [], ◌^◌, ℕ, Bool, List}
 use Rattle.ldap_filter.specs.ldap_ber.Values.{IsInteger}
-use Rattle.ldap_filter.specs.ldap_fields.Fields.{HasField, Seq, HasText, HasNumber, HasInteger, HasFlag, HasPart, HasOctetsOrNone}
-use Rattle.ldap_filter.specs.ldap_fields.Rows.{AreTexts, AreElements}
+use Rattle.ldap_filter.specs.ldap_ber.Fields.{HasField, Seq, HasText, HasNumber, HasInteger, HasFlag, HasPart, HasOctetsOrNone}
+use Rattle.ldap_filter.specs.ldap_ber.Rows.{AreTexts, AreElements}
 use Rattle.ldap_filter.specs.Tree.{Tree}
 use Rattle.ldap_filter.specs.Grammar.{HasFilter}
 use Rattle.ldap_requests.specs.Values.{SearchRequestValue, SaslCredentialsValue, AuthenticationValue, simple, sasl, BindRequestValue, AssertionValue, CompareRequestValue, ExtendedRequestValue}

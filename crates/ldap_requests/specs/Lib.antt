@@ -6,4 +6,3 @@ pub mod Limits
 -- what layers above name of the crates below
 pub use Rattle.ldap_filter.specs.ldap_ber as ldap_ber
 pub use Rattle.ldap_filter.specs as ldap_filter
-pub use Rattle.ldap_filter.specs.ldap_fields as ldap_fields

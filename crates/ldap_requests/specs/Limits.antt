@@ -1,7 +1,7 @@
 -- Where a filter stands in a search request, and what each fault says of the octets.
 use Rattle.std.specs.Prelude.{ℕ, Bool, List}
-use Rattle.ldap_filter.specs.ldap_fields.declared.fault.MsgFault.{MsgFault}
-use Rattle.ldap_filter.specs.ldap_fields.declared.fault.MsgFault.TheVariants.{TooLarge, NotAMessage, TooDeep, TooManyItems, NoMemory}
+use Rattle.ldap_filter.specs.ldap_ber.declared.message_fault.MsgFault.{MsgFault}
+use Rattle.ldap_filter.specs.ldap_ber.declared.message_fault.MsgFault.TheVariants.{TooLarge, NotAMessage, TooDeep, TooManyItems, NoMemory}
 use Rattle.ldap_filter.specs.Limits.{Opens}
 use Rattle.ldap_requests.specs.Grammar.{IsTarget, IsBounds}
 use Rattle.ldap_requests.specs.declared.search.Scope.{Scope}

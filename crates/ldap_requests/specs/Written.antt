@@ -4,11 +4,11 @@ use Rattle.std.specs.Str.{IsUtf8}
 use Rattle.std.specs.List.{AllByRecursion}
 use Rattle.ldap_filter.specs.ldap_ber.Element.{element_bytes}
 use Rattle.ldap_filter.specs.ldap_ber.Values.{integer_octets, IsLong}
-use Rattle.ldap_filter.specs.ldap_fields.Rows.{row_bytes}
+use Rattle.ldap_filter.specs.ldap_ber.Rows.{row_bytes}
 use Rattle.ldap_filter.specs.Grammar.{filter_bytes, HasTexts}
 use Rattle.ldap_requests.specs.Values.{SearchRequestValue, SaslCredentialsValue, AuthenticationValue, simple, sasl, BindRequestValue, AssertionValue, CompareRequestValue, ExtendedRequestValue}
 use Rattle.ldap_requests.specs.Grammar.{scope_number, deref_number}
-use Rattle.ldap_filter.specs.ldap_fields.Written.{number_bytes, flag_octets, optional_bytes}
+use Rattle.ldap_filter.specs.ldap_ber.Written.{number_bytes, flag_octets, optional_bytes}
 
 -- baseObject, scope, derefAliases
 abbrev pub target_bytes : SearchRequestValue → List ℕ

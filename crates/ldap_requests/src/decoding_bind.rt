@@ -1,8 +1,8 @@
 //! Reads a bind request.
 
 ghost use Rattle.std.specs.Prelude.{ℕ, List, IfOk, IfErr};
-ghost use Rattle.ldap_filter.specs.ldap_fields.Faults.{IsPlainFault};
-ghost use Rattle.ldap_filter.specs.ldap_fields.Fields.{HasPart};
+ghost use Rattle.ldap_filter.specs.ldap_ber.Faults.{IsPlainFault};
+ghost use Rattle.ldap_filter.specs.ldap_ber.Fields.{HasPart};
 ghost use Rattle.ldap_requests.specs.Values.{SaslCredentialsValue, AuthenticationValue, BindRequestValue};
 ghost use Rattle.ldap_requests.specs.View.{sasl_view, authentication_view, bind_view};
 ghost use Rattle.ldap_requests.specs.Grammar.{IsSaslCredentials, HasAuthentication, IsBindRequest};

@@ -1,8 +1,8 @@
 //! Reads a compare request.
 
 ghost use Rattle.std.specs.Prelude.{ℕ, List, IfOk, IfErr};
-ghost use Rattle.ldap_filter.specs.ldap_fields.Faults.{IsPlainFault};
-ghost use Rattle.ldap_filter.specs.ldap_fields.Fields.{HasPart};
+ghost use Rattle.ldap_filter.specs.ldap_ber.Faults.{IsPlainFault};
+ghost use Rattle.ldap_filter.specs.ldap_ber.Fields.{HasPart};
 ghost use Rattle.ldap_requests.specs.Values.{AssertionValue, CompareRequestValue};
 ghost use Rattle.ldap_requests.specs.View.{ava_view, compare_view};
 ghost use Rattle.ldap_requests.specs.Grammar.{IsAva, IsCompareRequest};

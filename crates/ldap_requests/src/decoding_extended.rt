@@ -1,7 +1,7 @@
 //! Reads an extended request, an abandon and an unbind.
 
 ghost use Rattle.std.specs.Prelude.{ℤ, IfOk, IfErr};
-ghost use Rattle.ldap_filter.specs.ldap_fields.Faults.{IsPlainFault};
+ghost use Rattle.ldap_filter.specs.ldap_ber.Faults.{IsPlainFault};
 ghost use Rattle.ldap_requests.specs.Values.{ExtendedRequestValue};
 ghost use Rattle.ldap_requests.specs.View.{extended_request_view};
 ghost use Rattle.ldap_requests.specs.Grammar.{IsExtendedRequest, IsAbandonRequest, IsUnbindRequest};

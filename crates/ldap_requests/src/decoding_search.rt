@@ -1,7 +1,7 @@
 //! Reads a search request.
 
 ghost use Rattle.std.specs.Prelude.{◌≡◌, ◌<◌, ◌≤◌, ℕ, List, Bool, IfOk, IfErr, map, string_bytes};
-ghost use Rattle.ldap_filter.specs.ldap_fields.Faults.{IsPlainFault};
+ghost use Rattle.ldap_filter.specs.ldap_ber.Faults.{IsPlainFault};
 ghost use Rattle.ldap_filter.specs.Tree.{Tree, depth, count};
 ghost use Rattle.ldap_filter.specs.View.{view as filter_view};
 ghost use Rattle.ldap_requests.specs.Values.{SearchRequestValue};

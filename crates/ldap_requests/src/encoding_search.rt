@@ -2,7 +2,7 @@
 
 ghost use Rattle.std.specs.Prelude.{◌≡◌, ◌^◌, ◌≤◌, ◌<◌, ◌++◌, length, IfOk, OnOk, OnErr, IsErrOf};
 ghost use Rattle.ldap_filter.specs.ldap_ber.Element.{element_bytes};
-ghost use Rattle.ldap_filter.specs.ldap_fields.Rows.{row_bytes};
+ghost use Rattle.ldap_filter.specs.ldap_ber.Rows.{row_bytes};
 ghost use Rattle.ldap_requests.specs.View.{search_view};
 ghost use Rattle.ldap_requests.specs.Grammar.{scope_number, deref_number};
 ghost use Rattle.ldap_requests.specs.Written.{search_content, target_bytes, bounds_bytes};

@@ -1,13 +1,13 @@
 -- What a part lacks, the response lacks: at each exit of a reader, behind the parts that it read.
 use Rattle.std.proofs.Common.{ℕ, Option, List}
-use Rattle.ldap_parts.specs.ldap_fields.Fields.{HasText, HasPart, HasTextOrNone, HasOctetsOrNone}
-use Rattle.ldap_parts.specs.ldap_fields.Rows.{AreRow, AreElements}
-use Rattle.ldap_parts.proofs.ldap_fields.Same.{step, text_part, text_unique, text_or_none_unique, octets_or_none_unique}
+use Rattle.ldap_parts.specs.ldap_ber.Fields.{HasText, HasPart, HasTextOrNone, HasOctetsOrNone}
+use Rattle.ldap_parts.specs.ldap_ber.Rows.{AreRow, AreElements}
+use Rattle.ldap_parts.proofs.ldap_ber.Same.{step, text_part, text_unique, text_or_none_unique, octets_or_none_unique}
 use Rattle.ldap_parts.specs.Values.{PartialAttributeValue, LdapResultValue}
 use Rattle.ldap_responses.specs.Values.{SearchResultEntryValue, ExtendedResponseValue}
 use Rattle.ldap_parts.specs.Grammar.{HasPartialAttribute, HasLdapResult}
 use Rattle.ldap_responses.specs.Grammar.{IsSearchResultEntry, IsExtendedResponse}
-use Rattle.ldap_parts.proofs.ldap_fields.Parts.{text_or_none_part, octets_or_none_part}
+use Rattle.ldap_parts.proofs.ldap_ber.Parts.{text_or_none_part, octets_or_none_part}
 use Rattle.ldap_parts.proofs.Unique.{attributes_part, attributes_unique, result_unique}
 
 pub entry_attributes : (o x d : List ℕ) → HasText o 4 d x → (v : SearchResultEntryValue) × IsSearchResultEntry v o →

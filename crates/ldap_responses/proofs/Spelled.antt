@@ -3,15 +3,15 @@ use Rattle.std.proofs.Common.{◌≡◌, ℕ, List, [], ◌++◌, sym, ap, subst
 use Rattle.std.specs.Str.{IsUtf8}
 use Rattle.std.proofs.lemmas.List.{append-nil}
 use Rattle.ldap_parts.specs.ldap_ber.Element.{element_bytes}
-use Rattle.ldap_parts.specs.ldap_fields.Fields.{HasPart, BeginsOtherwise}
-use Rattle.ldap_parts.specs.ldap_fields.Rows.{AreRow, none, row_bytes}
+use Rattle.ldap_parts.specs.ldap_ber.Fields.{HasPart, BeginsOtherwise}
+use Rattle.ldap_parts.specs.ldap_ber.Rows.{AreRow, none, row_bytes}
 use Rattle.ldap_responses.specs.Values.{SearchResultEntryValue, ExtendedResponseValue}
 use Rattle.ldap_parts.specs.Grammar.{HasPartialAttribute}
 use Rattle.ldap_responses.specs.Grammar.{IsSearchResultEntry, IsExtendedResponse}
-use Rattle.ldap_parts.specs.ldap_fields.Written.{optional_bytes}
+use Rattle.ldap_parts.specs.ldap_ber.Written.{optional_bytes}
 use Rattle.ldap_parts.specs.Written.{attribute_bytes, result_content}
 use Rattle.ldap_responses.specs.Written.{entry_content, extended_content, IsEntryInRange, IsExtendedInRange}
-use Rattle.ldap_parts.proofs.ldap_fields.Spelled.{IsShort, inner, left, right, text, part, rows, optional_otherwise, text_or_none, octets_or_none}
+use Rattle.ldap_parts.proofs.ldap_ber.Spelled.{IsShort, inner, left, right, text, part, rows, optional_otherwise, text_or_none, octets_or_none}
 use Rattle.ldap_parts.proofs.Spelled.{attribute, result}
 
 pub entry : (e : SearchResultEntryValue) → IsEntryInRange e → IsShort (entry_content e) →

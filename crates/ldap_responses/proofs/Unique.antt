@@ -1,12 +1,12 @@
 -- Each part has one value at the front of octets, and one rest.
 use Rattle.std.proofs.Common.{◌≡◌, ℕ, Option, List, ap, ◌∙◌}
-use Rattle.ldap_parts.proofs.ldap_fields.Same.{step, text_part, text_unique, text_or_none_unique, octets_or_none_unique}
-use Rattle.ldap_parts.proofs.ldap_fields.RowLemmas.{IsOneValue}
+use Rattle.ldap_parts.proofs.ldap_ber.Same.{step, text_part, text_unique, text_or_none_unique, octets_or_none_unique}
+use Rattle.ldap_parts.proofs.ldap_ber.RowLemmas.{IsOneValue}
 use Rattle.ldap_parts.specs.Values.{PartialAttributeValue, LdapResultValue}
 use Rattle.ldap_responses.specs.Values.{SearchResultEntryValue, ExtendedResponseValue}
 use Rattle.ldap_parts.specs.Grammar.{HasLdapResult}
 use Rattle.ldap_responses.specs.Grammar.{IsSearchResultEntry, IsExtendedResponse}
-use Rattle.ldap_parts.proofs.ldap_fields.Parts.{text_or_none_part, octets_or_none_part}
+use Rattle.ldap_parts.proofs.ldap_ber.Parts.{text_or_none_part, octets_or_none_part}
 use Rattle.ldap_parts.proofs.Unique.{attributes_part, attributes_unique, result_unique}
 
 entry_same : (v w : SearchResultEntryValue) → v.object_name ≡ w.object_name → v.attributes ≡ w.attributes → v ≡ w

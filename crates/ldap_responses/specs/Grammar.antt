@@ -1,7 +1,7 @@
 -- The contents that spell a response (RFC 4511 4.5.2, 4.12).
 use Rattle.std.specs.Prelude.{ℕ, List}
-use Rattle.ldap_parts.specs.ldap_fields.Fields.{Seq, HasText, HasPart, HasTextOrNone, HasOctetsOrNone}
-use Rattle.ldap_parts.specs.ldap_fields.Rows.{AreRow, AreElements}
+use Rattle.ldap_parts.specs.ldap_ber.Fields.{Seq, HasText, HasPart, HasTextOrNone, HasOctetsOrNone}
+use Rattle.ldap_parts.specs.ldap_ber.Rows.{AreRow, AreElements}
 use Rattle.ldap_responses.specs.Values.{SearchResultEntryValue, ExtendedResponseValue}
 use Rattle.ldap_parts.specs.Grammar.{HasPartialAttribute, HasLdapResult}
 

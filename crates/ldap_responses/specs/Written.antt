@@ -3,9 +3,9 @@ use Rattle.std.specs.Prelude.{ℕ, List, ◌++◌}
 use Rattle.std.specs.Str.{IsUtf8}
 use Rattle.std.specs.List.{AllByRecursion}
 use Rattle.ldap_parts.specs.ldap_ber.Element.{element_bytes}
-use Rattle.ldap_parts.specs.ldap_fields.Rows.{row_bytes}
+use Rattle.ldap_parts.specs.ldap_ber.Rows.{row_bytes}
 use Rattle.ldap_responses.specs.Values.{SearchResultEntryValue, ExtendedResponseValue}
-use Rattle.ldap_parts.specs.ldap_fields.Written.{optional_bytes, IsTextOrNone}
+use Rattle.ldap_parts.specs.ldap_ber.Written.{optional_bytes, IsTextOrNone}
 use Rattle.ldap_parts.specs.Written.{attribute_bytes, result_content, IsResultInRange}
 
 -- the content of an entry

@@ -1,7 +1,7 @@
 //! Reads an entry that a search found.
 
 ghost use Rattle.std.specs.Prelude.{IfOk, IfErr};
-ghost use Rattle.ldap_parts.specs.ldap_fields.Faults.{IsPlainFault};
+ghost use Rattle.ldap_parts.specs.ldap_ber.Faults.{IsPlainFault};
 ghost use Rattle.ldap_responses.specs.Values.{SearchResultEntryValue};
 ghost use Rattle.ldap_responses.specs.View.{entry_view};
 ghost use Rattle.ldap_responses.specs.Grammar.{IsSearchResultEntry};

@@ -1,7 +1,7 @@
 //! Reads an extended response.
 
 ghost use Rattle.std.specs.Prelude.{IfOk, IfErr};
-ghost use Rattle.ldap_parts.specs.ldap_fields.Faults.{IsPlainFault};
+ghost use Rattle.ldap_parts.specs.ldap_ber.Faults.{IsPlainFault};
 ghost use Rattle.ldap_responses.specs.Values.{ExtendedResponseValue};
 ghost use Rattle.ldap_responses.specs.View.{extended_view};
 ghost use Rattle.ldap_responses.specs.Grammar.{IsExtendedResponse};

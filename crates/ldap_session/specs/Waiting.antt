@@ -1,7 +1,7 @@
 -- Which messages may have to wait for others. The messages that are to be answered come in; what stands next comes out.
 use Rattle.std.specs.Prelude.{ℕ, List, [], ◌∷◌, Bool, true, false, Option, Some, None, cond}
 use Rattle.session_handler.specs.ldap_msg.Messages.{MessageValue, OperationValue, request, response, RequestValue, bind, unbind, search, modify, add, delete, modify_dn, compare, abandon, extended_request}
-use Rattle.session_handler.specs.ldap_fields.declared.fault.MsgFault.{MsgFault}
+use Rattle.session_handler.specs.ldap_ber.declared.message_fault.MsgFault.{MsgFault}
 use Rattle.session_handler.specs.Waiting.{may_update}
 use Rattle.session_handler.specs.declared.state.State.{State}
 use Rattle.ldap_framer.specs.Framed.{Framed}

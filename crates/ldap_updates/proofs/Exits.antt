@@ -2,9 +2,9 @@
 use Rattle.std.proofs.Common.{◌≡◌, ℕ, Bool, true, eqb, length, List, [], map, sym, ap, ◌∙◌}
 use Rattle.std.proofs.lemmas.List.{nil_from_length}
 use Rattle.std.proofs.lemmas.Bool.{eqb-true}
-use Rattle.ldap_parts.specs.ldap_fields.Fields.{HasText, HasPart}
-use Rattle.ldap_parts.specs.ldap_fields.Rows.{AreRow, AreElements}
-use Rattle.ldap_parts.proofs.ldap_fields.Same.{step, text_part, text_unique}
+use Rattle.ldap_parts.specs.ldap_ber.Fields.{HasText, HasPart}
+use Rattle.ldap_parts.specs.ldap_ber.Rows.{AreRow, AreElements}
+use Rattle.ldap_parts.proofs.ldap_ber.Same.{step, text_part, text_unique}
 use Rattle.ldap_parts.specs.Values.{PartialAttributeValue}
 use Rattle.ldap_parts.specs.Grammar.{IsPartialAttribute}
 use Rattle.ldap_parts.proofs.Unique.{attribute_one}

@@ -5,4 +5,4 @@ pub mod Modifies
 pub mod Names
 -- what layers above name of the crates below
 pub use Rattle.ldap_parts.proofs as ldap_parts
-pub use Rattle.ldap_parts.proofs.ldap_fields as ldap_fields
+pub use Rattle.ldap_parts.proofs.ldap_ber as ldap_ber

@@ -3,13 +3,13 @@ use Rattle.std.proofs.Common.{◌≡◌, ◌^◌, ◌<◌, ℕ, zero, suc, List,
 use Rattle.std.specs.Str.{IsUtf8}
 use Rattle.std.proofs.lemmas.List.{append-nil}
 use Rattle.ldap_parts.specs.ldap_ber.Element.{element_bytes}
-use Rattle.ldap_parts.specs.ldap_fields.Fields.{HasText, HasNumber, HasPart}
-use Rattle.ldap_parts.specs.ldap_fields.Rows.{AreRow, AreElements, none, row_bytes}
-use Rattle.ldap_parts.specs.ldap_fields.Written.{number_bytes}
-use Rattle.ldap_parts.proofs.ldap_fields.Same.{IsUnique, IsSome, step, number_unique, text_part, text_unique}
-use Rattle.ldap_parts.proofs.ldap_fields.RowLemmas.{IsOneValue, part_unique, part_some, row_unique}
-use Rattle.ldap_parts.proofs.ldap_fields.Parts.{number_part}
-use Rattle.ldap_parts.proofs.ldap_fields.Spelled.{IsShort, inner, left, right, text, number, part, rows}
+use Rattle.ldap_parts.specs.ldap_ber.Fields.{HasText, HasNumber, HasPart}
+use Rattle.ldap_parts.specs.ldap_ber.Rows.{AreRow, AreElements, none, row_bytes}
+use Rattle.ldap_parts.specs.ldap_ber.Written.{number_bytes}
+use Rattle.ldap_parts.proofs.ldap_ber.Same.{IsUnique, IsSome, step, number_unique, text_part, text_unique}
+use Rattle.ldap_parts.proofs.ldap_ber.RowLemmas.{IsOneValue, part_unique, part_some, row_unique}
+use Rattle.ldap_parts.proofs.ldap_ber.Parts.{number_part}
+use Rattle.ldap_parts.proofs.ldap_ber.Spelled.{IsShort, inner, left, right, text, number, part, rows}
 use Rattle.ldap_parts.specs.Values.{PartialAttributeValue}
 use Rattle.ldap_parts.specs.Grammar.{HasPartialAttribute}
 use Rattle.ldap_parts.specs.Written.{attribute_bytes}

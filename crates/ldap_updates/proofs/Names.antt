@@ -3,13 +3,13 @@ use Rattle.std.proofs.Common.{◌≡◌, ℕ, Bool, Option, List, [], ◌++◌, 
 use Rattle.std.specs.Str.{IsUtf8}
 use Rattle.std.proofs.lemmas.List.{append-nil}
 use Rattle.ldap_parts.specs.ldap_ber.Element.{element_bytes}
-use Rattle.ldap_parts.specs.ldap_fields.Fields.{HasText, HasFlag, HasTextOrNone}
-use Rattle.ldap_parts.specs.ldap_fields.Rows.{AreElements, none}
-use Rattle.ldap_parts.specs.ldap_fields.Written.{flag_octets, optional_bytes}
-use Rattle.ldap_parts.proofs.ldap_fields.Same.{IsUnique, step, flag_unique, text_part, text_unique, text_or_none_unique}
-use Rattle.ldap_parts.proofs.ldap_fields.RowLemmas.{IsOneValue}
-use Rattle.ldap_parts.proofs.ldap_fields.Parts.{text_or_none_part}
-use Rattle.ldap_parts.proofs.ldap_fields.Spelled.{IsShort, inner, left, right, text, flag, text_or_none, regroup}
+use Rattle.ldap_parts.specs.ldap_ber.Fields.{HasText, HasFlag, HasTextOrNone}
+use Rattle.ldap_parts.specs.ldap_ber.Rows.{AreElements, none}
+use Rattle.ldap_parts.specs.ldap_ber.Written.{flag_octets, optional_bytes}
+use Rattle.ldap_parts.proofs.ldap_ber.Same.{IsUnique, step, flag_unique, text_part, text_unique, text_or_none_unique}
+use Rattle.ldap_parts.proofs.ldap_ber.RowLemmas.{IsOneValue}
+use Rattle.ldap_parts.proofs.ldap_ber.Parts.{text_or_none_part}
+use Rattle.ldap_parts.proofs.ldap_ber.Spelled.{IsShort, inner, left, right, text, flag, text_or_none, regroup}
 use Rattle.ldap_updates.specs.Values.{ModifyDnRequestValue}
 use Rattle.ldap_updates.specs.Grammar.{IsDelRequest, IsNewName, IsModifyDnRequest}
 use Rattle.ldap_updates.specs.Written.{modify_dn_content, IsModifyDnInRange}

@@ -3,9 +3,9 @@ use Rattle.std.proofs.Common.{ℕ, List, [], ◌++◌, subst, arith}
 use Rattle.std.specs.Str.{IsUtf8}
 use Rattle.std.proofs.lemmas.List.{append-nil}
 use Rattle.ldap_parts.specs.ldap_ber.Element.{element_bytes}
-use Rattle.ldap_parts.specs.ldap_fields.Fields.{HasPart}
-use Rattle.ldap_parts.specs.ldap_fields.Rows.{AreRow, none, row_bytes}
-use Rattle.ldap_parts.proofs.ldap_fields.Spelled.{IsShort, inner, left, right, text, part, rows}
+use Rattle.ldap_parts.specs.ldap_ber.Fields.{HasPart}
+use Rattle.ldap_parts.specs.ldap_ber.Rows.{AreRow, none, row_bytes}
+use Rattle.ldap_parts.proofs.ldap_ber.Spelled.{IsShort, inner, left, right, text, part, rows}
 use Rattle.ldap_parts.specs.Values.{PartialAttributeValue}
 use Rattle.ldap_parts.specs.Written.{attribute_content, attribute_bytes}
 use Rattle.ldap_parts.proofs.Spelled.{attribute_inside}

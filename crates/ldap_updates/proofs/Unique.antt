@@ -1,9 +1,9 @@
 -- Each part has one value at the front of octets, and one rest.
 use Rattle.std.proofs.Common.{◌≡◌, ℕ, List, ap, ◌∙◌}
-use Rattle.ldap_parts.specs.ldap_fields.Fields.{HasPart}
-use Rattle.ldap_parts.specs.ldap_fields.Rows.{AreRow}
-use Rattle.ldap_parts.proofs.ldap_fields.Same.{IsUnique, IsSome, step, text_part, text_unique}
-use Rattle.ldap_parts.proofs.ldap_fields.RowLemmas.{IsOneValue, part_unique, part_some, row_unique}
+use Rattle.ldap_parts.specs.ldap_ber.Fields.{HasPart}
+use Rattle.ldap_parts.specs.ldap_ber.Rows.{AreRow}
+use Rattle.ldap_parts.proofs.ldap_ber.Same.{IsUnique, IsSome, step, text_part, text_unique}
+use Rattle.ldap_parts.proofs.ldap_ber.RowLemmas.{IsOneValue, part_unique, part_some, row_unique}
 use Rattle.ldap_parts.specs.Values.{PartialAttributeValue}
 use Rattle.ldap_parts.proofs.Unique.{attribute_one}
 use Rattle.ldap_updates.specs.Values.{AddRequestValue}

@@ -2,8 +2,8 @@
 -- octets where it begins, and the octets that follow it.
 use Rattle.std.specs.Prelude.{◌≡◌, ◌≢◌, ℕ, Bool, List, []}
 use Rattle.std.specs.Str.{IsUtf8}
-use Rattle.ldap_parts.specs.ldap_fields.Fields.{Seq, HasText, HasNumber, HasFlag, HasPart, HasTextOrNone}
-use Rattle.ldap_parts.specs.ldap_fields.Rows.{AreRow, AreElements}
+use Rattle.ldap_parts.specs.ldap_ber.Fields.{Seq, HasText, HasNumber, HasFlag, HasPart, HasTextOrNone}
+use Rattle.ldap_parts.specs.ldap_ber.Rows.{AreRow, AreElements}
 use Rattle.ldap_parts.specs.Values.{PartialAttributeValue}
 use Rattle.ldap_parts.specs.Grammar.{IsPartialAttribute, HasPartialAttribute}
 use Rattle.ldap_updates.specs.Values.{AddRequestValue, ChangeValue, ModifyRequestValue, ModifyDnRequestValue}

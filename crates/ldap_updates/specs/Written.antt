@@ -3,8 +3,8 @@ use Rattle.std.specs.Prelude.{ℕ, List, ◌++◌}
 use Rattle.std.specs.Str.{IsUtf8}
 use Rattle.std.specs.List.{AllByRecursion}
 use Rattle.ldap_parts.specs.ldap_ber.Element.{element_bytes}
-use Rattle.ldap_parts.specs.ldap_fields.Rows.{row_bytes}
-use Rattle.ldap_parts.specs.ldap_fields.Written.{number_bytes, flag_octets, optional_bytes, IsTextOrNone}
+use Rattle.ldap_parts.specs.ldap_ber.Rows.{row_bytes}
+use Rattle.ldap_parts.specs.ldap_ber.Written.{number_bytes, flag_octets, optional_bytes, IsTextOrNone}
 use Rattle.ldap_parts.specs.Written.{attribute_bytes}
 use Rattle.ldap_updates.specs.Values.{AddRequestValue, ChangeValue, ModifyRequestValue, ModifyDnRequestValue}
 use Rattle.ldap_updates.specs.Grammar.{HasAValue, modify_number}

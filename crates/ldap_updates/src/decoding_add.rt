@@ -1,9 +1,9 @@
 //! Reads an add.
 
 ghost use Rattle.std.specs.Prelude.{ℕ, List, IfOk, IfErr, map};
-ghost use Rattle.ldap_parts.specs.ldap_fields.Faults.{IsPlainFault};
-ghost use Rattle.ldap_parts.specs.ldap_fields.Fields.{HasPart};
-ghost use Rattle.ldap_parts.specs.ldap_fields.Rows.{AreRow};
+ghost use Rattle.ldap_parts.specs.ldap_ber.Faults.{IsPlainFault};
+ghost use Rattle.ldap_parts.specs.ldap_ber.Fields.{HasPart};
+ghost use Rattle.ldap_parts.specs.ldap_ber.Rows.{AreRow};
 ghost use Rattle.ldap_parts.specs.Values.{PartialAttributeValue};
 ghost use Rattle.ldap_parts.specs.View.{attribute_view};
 ghost use Rattle.ldap_updates.specs.Values.{AddRequestValue};

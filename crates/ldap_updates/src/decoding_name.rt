@@ -1,7 +1,7 @@
 //! Reads a modifyDN and a delete.
 
 ghost use Rattle.std.specs.Prelude.{ℕ, List, Bool, IfOk, IfErr, string_bytes};
-ghost use Rattle.ldap_parts.specs.ldap_fields.Faults.{IsPlainFault};
+ghost use Rattle.ldap_parts.specs.ldap_ber.Faults.{IsPlainFault};
 ghost use Rattle.ldap_updates.specs.Values.{ModifyDnRequestValue};
 ghost use Rattle.ldap_updates.specs.View.{modify_dn_view};
 ghost use Rattle.ldap_updates.specs.Grammar.{IsDelRequest, IsNewName, IsModifyDnRequest};

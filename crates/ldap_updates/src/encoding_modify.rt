@@ -1,7 +1,7 @@
 //! Writes a modify.
 
 ghost use Rattle.std.specs.Prelude.{◌≡◌, ◌^◌, ◌≤◌, ◌<◌, ◌++◌, map, length, IfOk, OnOk, IsErrOf};
-ghost use Rattle.ldap_parts.specs.ldap_fields.Rows.{row_bytes};
+ghost use Rattle.ldap_parts.specs.ldap_ber.Rows.{row_bytes};
 ghost use Rattle.ldap_updates.specs.View.{change_view, modify_view};
 ghost use Rattle.ldap_updates.specs.Grammar.{modify_number};
 ghost use Rattle.ldap_updates.specs.Written.{change_content, change_bytes, modify_content};

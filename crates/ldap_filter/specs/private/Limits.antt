@@ -1,7 +1,7 @@
 -- What contracts that aren't public say of it. What public contracts say is in specs/Limits.
 use Rattle.std.specs.Prelude.{◌≡◌, ℕ, ◌+◌, ◌≤◌, List, ◌++◌}
-use Rattle.ldap_fields.specs.declared.fault.MsgFault.{MsgFault}
-use Rattle.ldap_fields.specs.declared.fault.MsgFault.TheVariants.{TooLarge, NotAMessage, TooDeep, TooManyItems, NoMemory}
+use Rattle.ldap_ber.specs.declared.message_fault.MsgFault.{MsgFault}
+use Rattle.ldap_ber.specs.declared.message_fault.MsgFault.TheVariants.{TooLarge, NotAMessage, TooDeep, TooManyItems, NoMemory}
 use Rattle.ldap_filter.specs.Tree.{Tree, conj, disj, negation, item, Trees, depth, count, depths, counts}
 use Rattle.ldap_filter.specs.ItemGrammar.{item_octet, IsItem}
 use Rattle.ldap_filter.specs.Grammar.{IsFilter, AreFilters}

@@ -6,7 +6,7 @@ use Rattle.session_handler.specs.declared.answered.Answered.{Answered}
 use Rattle.session_handler.specs.declared.answered.Next.TheVariants.{Disconnected}
 use Rattle.session_handler.specs.request_checks.declared.fault.AnswerError.{AnswerError}
 use Rattle.session_handler.specs.request_checks.declared.fault.AnswerError.TheVariants.{TooLong}
-use Rattle.session_handler.specs.ldap_fields.declared.fault.MsgFault.{MsgFault}
+use Rattle.session_handler.specs.ldap_ber.declared.message_fault.MsgFault.{MsgFault}
 use Rattle.ldap_session.specs.Progress.{IsWritten}
 
 -- what stands where a message is to begin: nothing yet, or what is no message, which is answered by the notice

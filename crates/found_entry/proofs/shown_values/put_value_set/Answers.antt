@@ -1,8 +1,8 @@
 use Rattle.std.proofs.Common.{◌∷◌, arith}
 use Rattle.std.proofs.lemmas.Result.{err_from_is_err_and}
 use Rattle.ldap_msg.specs.ldap_ber.Element.{element_bytes, length_octets}
-use Rattle.ldap_msg.specs.ldap_fields.Rows.{row_bytes}
-use Rattle.ldap_msg.proofs.ldap_fields.Puts.{headed, in_range, kept_same, kept_more}
+use Rattle.ldap_msg.specs.ldap_ber.Rows.{row_bytes}
+use Rattle.ldap_msg.proofs.ldap_ber.Puts.{headed, in_range, kept_same, kept_more}
 use Rattle.found_entry.proofs.shown_values.put_value_set.Goals as goal
 
 pub returns-in_err-write_head-clause-too_long : goal.returns-in_err-write_head-clause-too_long

@@ -1,6 +1,6 @@
 use Rattle.std.proofs.Common.{◌∙◌}
 use Rattle.std.proofs.lemmas.Result.{err_from_is_err_and}
-use Rattle.ldap_msg.proofs.ldap_fields.Puts.{kept_front}
+use Rattle.ldap_msg.proofs.ldap_ber.Puts.{kept_front}
 use Rattle.found_entry.proofs.ShownValues.{value_step, value_long}
 use Rattle.found_entry.proofs.shown_values.put_values.Goals as goal
 

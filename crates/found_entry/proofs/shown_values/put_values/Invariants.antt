@@ -1,6 +1,6 @@
 use Rattle.std.proofs.Common.{◌≡◌, ◌++◌, take}
 use Rattle.ldap_msg.specs.ldap_ber.Element.{element_bytes}
-use Rattle.ldap_msg.specs.ldap_fields.Rows.{row_bytes}
+use Rattle.ldap_msg.specs.ldap_ber.Rows.{row_bytes}
 use Rattle.found_entry.proofs.shown_values.put_values.Given as goal
 
 -- those so far stand behind what was there

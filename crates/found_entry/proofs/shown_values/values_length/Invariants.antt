@@ -1,6 +1,6 @@
 use Rattle.std.proofs.Common.{◌≡◌, length, min, take}
 use Rattle.ldap_msg.specs.ldap_ber.Element.{element_bytes}
-use Rattle.ldap_msg.specs.ldap_fields.Rows.{row_bytes}
+use Rattle.ldap_msg.specs.ldap_ber.Rows.{row_bytes}
 use Rattle.found_entry.proofs.shown_values.values_length.Given as goal
 
 -- what those so far take

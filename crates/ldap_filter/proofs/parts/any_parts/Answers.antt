@@ -2,7 +2,7 @@
 use Rattle.std.proofs.Common.{map, ap, ◌∙◌}
 use Rattle.std.proofs.lemmas.List.{map_push}
 use Rattle.std.proofs.lemmas.Result.{err_from_is_err_and}
-use Rattle.ldap_fields.proofs.Same.{plain_weaker}
+use Rattle.ldap_ber.proofs.Same.{plain_weaker}
 use Rattle.ldap_filter.proofs.Exits.{one_more_part, all_parts, no_part}
 use Rattle.ldap_filter.proofs.parts.any_parts.Goals as goal
 

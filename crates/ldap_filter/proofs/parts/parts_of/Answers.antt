@@ -1,7 +1,7 @@
 -- The goals of `parts_of` that no tactic closes, each by one lemma over plain lists.
 use Rattle.std.proofs.lemmas.Result.{err_from_is_err_and}
-use Rattle.ldap_fields.proofs.Same.{plain_weaker}
-use Rattle.ldap_fields.proofs.RowLemmas.{some_left, none_left}
+use Rattle.ldap_ber.proofs.Same.{plain_weaker}
+use Rattle.ldap_ber.proofs.RowLemmas.{some_left, none_left}
 use Rattle.ldap_filter.proofs.Exits.{parts_initial, parts_any, parts_last, parts_end, are_parts}
 use Rattle.ldap_filter.proofs.parts.parts_of.Goals as goal
 

@@ -4,11 +4,11 @@ use Rattle.std.proofs.lemmas.Result.{err_from_is_err_and}
 use Rattle.ldap_filter.specs.View.{view}
 use Rattle.ldap_filter.specs.private.View.{views}
 use Rattle.ldap_filter.specs.Tree.{negation}
-use Rattle.ldap_fields.specs.Fields.{HasField}
+use Rattle.ldap_ber.specs.Fields.{HasField}
 use Rattle.ldap_filter.specs.Limits.{here}
 use Rattle.ldap_filter.specs.declared.tree.Filter.{Not, the_lemmas}
 use Rattle.ldap_filter.proofs.Faults.{row_fault, not_fault, trailing, item_fault, not_reads}
-use Rattle.ldap_fields.proofs.RowLemmas.{some_left, none_left}
+use Rattle.ldap_ber.proofs.RowLemmas.{some_left, none_left}
 use Rattle.ldap_filter.proofs.Rows.{goes_on, fails, views_push}
 use Rattle.ldap_filter.proofs.reading.+filter.Goals as goal
 

@@ -1,8 +1,8 @@
 -- The goals of `assertion` that no tactic closes, each by one lemma over plain lists.
 use Rattle.std.specs.Prelude.{string_bytes}
 use Rattle.std.proofs.lemmas.Result.{err_from_is_err_and}
-use Rattle.ldap_fields.proofs.Same.{plain_weaker}
-use Rattle.ldap_fields.proofs.RowLemmas.{some_left}
+use Rattle.ldap_ber.proofs.Same.{plain_weaker}
+use Rattle.ldap_ber.proofs.RowLemmas.{some_left}
 use Rattle.ldap_filter.proofs.Texts.{no_second, no_more}
 use Rattle.ldap_filter.proofs.reading_item.assertion.Goals as goal
 

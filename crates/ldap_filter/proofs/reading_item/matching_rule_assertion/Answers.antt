@@ -1,7 +1,7 @@
 -- The goals of `matching_rule_assertion` that no tactic closes, each by one lemma over plain lists.
 use Rattle.std.proofs.lemmas.Result.{err_from_is_err_and}
-use Rattle.ldap_fields.proofs.Same.{plain_weaker}
-use Rattle.ldap_fields.proofs.RowLemmas.{some_left}
+use Rattle.ldap_ber.proofs.Same.{plain_weaker}
+use Rattle.ldap_ber.proofs.RowLemmas.{some_left}
 use Rattle.ldap_filter.proofs.Exits.{extensible_description, extensible_value, extensible_flag, extensible_end}
 use Rattle.ldap_filter.proofs.reading_item.matching_rule_assertion.Goals as goal
 

@@ -1,8 +1,8 @@
 -- The goals of `substring_filter` that no tactic closes, each by one lemma over plain lists.
 use Rattle.std.proofs.Common.{refl, string_bytes}
 use Rattle.std.proofs.lemmas.Result.{err_from_is_err_and}
-use Rattle.ldap_fields.proofs.Same.{plain_weaker}
-use Rattle.ldap_fields.proofs.RowLemmas.{some_left, none_left}
+use Rattle.ldap_ber.proofs.Same.{plain_weaker}
+use Rattle.ldap_ber.proofs.RowLemmas.{some_left, none_left}
 use Rattle.ldap_filter.proofs.Exits.{substrings_parts, substrings_end, substrings_inside, are_substrings}
 use Rattle.ldap_filter.proofs.reading_item.substring_filter.Goals as goal
 

@@ -1,7 +1,7 @@
 -- The goals of `put_any_parts` that no tactic closes, each by one lemma over plain lists.
 use Rattle.std.proofs.lemmas.Result.{err_from_is_err_and}
-use Rattle.ldap_fields.specs.ldap_ber.Element.{element_bytes}
-use Rattle.ldap_fields.proofs.Written.{row_step, row_long, element_long}
+use Rattle.ldap_ber.specs.Element.{element_bytes}
+use Rattle.ldap_ber.proofs.RowsWritten.{row_step, row_long, element_long}
 use Rattle.ldap_filter.proofs.writing_item.put_any_parts.Goals as goal
 
 pub returns-in_err-write-clause-too_long : goal.returns-in_err-write-clause-too_long

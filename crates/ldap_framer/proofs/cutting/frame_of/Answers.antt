@@ -1,6 +1,6 @@
 -- The goals of `frame_of` that no tactic closes, each by one lemma over plain lists.
 use Rattle.std.proofs.Common.{subst, take, inr}
-use Rattle.ldap_msg.specs.ldap_fields.declared.fault.MsgFault.TheVariants.{NotAMessage, TooDeep, TooManyItems}
+use Rattle.ldap_msg.specs.ldap_ber.declared.message_fault.MsgFault.TheVariants.{NotAMessage, TooDeep, TooManyItems}
 use Rattle.ldap_msg.specs.Limits.{IsFault}
 use Rattle.ldap_framer.proofs.Frames.{bad_frame}
 use Rattle.ldap_framer.proofs.cutting.frame_of.Goals as goal

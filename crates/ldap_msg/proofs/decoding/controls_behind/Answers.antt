@@ -1,8 +1,8 @@
 -- The goals of `controls_behind` that no tactic closes.
 use Rattle.std.proofs.Common.{List}
 use Rattle.std.proofs.lemmas.Result.{IfErr-weaker}
-use Rattle.ldap_requests.specs.ldap_fields.Faults.{IsPlainFault}
-use Rattle.ldap_requests.proofs.ldap_fields.Same.{plain_weaker}
+use Rattle.ldap_requests.specs.ldap_ber.Faults.{IsPlainFault}
+use Rattle.ldap_requests.proofs.ldap_ber.Same.{plain_weaker}
 use Rattle.ldap_updates.specs.ldap_parts.Values.{ControlValue}
 use Rattle.ldap_updates.specs.ldap_parts.Grammar.{AreControls}
 use Rattle.ldap_msg.specs.View.{operation_view}

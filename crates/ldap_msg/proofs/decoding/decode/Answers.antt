@@ -1,5 +1,5 @@
 -- The goals of `decode` that no tactic closes, each by one lemma over plain lists.
-use Rattle.ldap_requests.proofs.ldap_fields.RowLemmas.{some_left, none_left}
+use Rattle.ldap_requests.proofs.ldap_ber.RowLemmas.{some_left, none_left}
 use Rattle.ldap_msg.specs.View.{view}
 use Rattle.ldap_msg.proofs.Exits.{message_whole}
 use Rattle.ldap_msg.proofs.Whole.{only_whole, whole_faults}

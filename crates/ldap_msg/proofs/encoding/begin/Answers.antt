@@ -2,8 +2,8 @@
 use Rattle.std.proofs.Common.{◌∷◌, inl, inr}
 use Rattle.std.proofs.lemmas.Result.{err_from_is_err_and}
 use Rattle.ldap_requests.specs.ldap_ber.Element.{length_octets}
-use Rattle.ldap_requests.specs.ldap_fields.Written.{number_bytes}
-use Rattle.ldap_requests.proofs.ldap_fields.Puts.{in_range, same_error}
+use Rattle.ldap_requests.specs.ldap_ber.Written.{number_bytes}
+use Rattle.ldap_requests.proofs.ldap_ber.Puts.{in_range, same_error}
 use Rattle.ldap_msg.proofs.Encoded.{begun}
 use Rattle.ldap_msg.proofs.encoding.begin.Goals as goal
 

@@ -1,7 +1,7 @@
 -- The goals of `encode_content` that no tactic closes, each by one lemma over plain lists.
 use Rattle.std.proofs.Common.{refl, arith}
 use Rattle.std.proofs.lemmas.Result.{err_from_is_err_and}
-use Rattle.ldap_requests.proofs.ldap_fields.Puts.{same_error}
+use Rattle.ldap_requests.proofs.ldap_ber.Puts.{same_error}
 use Rattle.ldap_msg.proofs.Encoded.{whole_alone, too_long}
 use Rattle.ldap_msg.proofs.encoding.encode_content.Goals as goal
 

@@ -1,7 +1,7 @@
 -- The goals of `message_length` that no tactic closes, each by one lemma over plain lists.
 use Rattle.std.proofs.Common.{ℕ, ◌+◌, min, ap, ◌∙◌}
 use Rattle.ldap_requests.specs.ldap_ber.Element.{element_bytes}
-use Rattle.ldap_requests.specs.ldap_fields.Written.{number_bytes}
+use Rattle.ldap_requests.specs.ldap_ber.Written.{number_bytes}
 use Rattle.ldap_msg.proofs.Encoded.{three_measure}
 use Rattle.ldap_msg.proofs.encoding.message_length.Goals as goal
 

@@ -1,7 +1,7 @@
 -- The goals of `attribute_field` that no tactic closes, each by one lemma over plain lists.
 use Rattle.std.proofs.lemmas.Result.{err_from_is_err_and}
-use Rattle.ldap_fields.proofs.Same.{plain_weaker}
-use Rattle.ldap_fields.proofs.RowLemmas.{part_inside}
+use Rattle.ldap_ber.proofs.Same.{plain_weaker}
+use Rattle.ldap_ber.proofs.RowLemmas.{part_inside}
 use Rattle.ldap_parts.specs.Grammar.{IsPartialAttribute}
 use Rattle.ldap_parts.proofs.decoding_attribute.attribute_field.Goals as goal
 

@@ -1,6 +1,6 @@
 -- The goals of `attribute_of` that no tactic closes, each by one lemma over plain lists.
 use Rattle.std.proofs.lemmas.Result.{err_from_is_err_and}
-use Rattle.ldap_fields.proofs.Same.{plain_weaker}
+use Rattle.ldap_ber.proofs.Same.{plain_weaker}
 use Rattle.ldap_parts.proofs.Exits.{attribute_end, attribute_values}
 use Rattle.ldap_parts.proofs.decoding_attribute.attribute_of.Goals as goal
 

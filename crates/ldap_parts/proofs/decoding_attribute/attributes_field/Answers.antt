@@ -1,8 +1,8 @@
 -- The goals of `attributes_field` that no tactic closes, each by one lemma over plain lists.
 use Rattle.std.proofs.lemmas.Result.{err_from_is_err_and}
-use Rattle.ldap_fields.proofs.Same.{plain_weaker}
-use Rattle.ldap_fields.proofs.RowLemmas.{part_inside}
-use Rattle.ldap_fields.specs.Rows.{AreRow}
+use Rattle.ldap_ber.proofs.Same.{plain_weaker}
+use Rattle.ldap_ber.proofs.RowLemmas.{part_inside}
+use Rattle.ldap_ber.specs.Rows.{AreRow}
 use Rattle.ldap_parts.specs.Grammar.{HasPartialAttribute}
 use Rattle.ldap_parts.proofs.decoding_attribute.attributes_field.Goals as goal
 

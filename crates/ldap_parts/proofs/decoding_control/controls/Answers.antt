@@ -1,7 +1,7 @@
 -- The goals of `controls` that no tactic closes, each by one lemma over plain lists.
 use Rattle.std.proofs.lemmas.Result.{err_from_is_err_and}
-use Rattle.ldap_fields.proofs.Same.{field_shorter}
-use Rattle.ldap_fields.proofs.RowLemmas.{goes_on_map, ends, fails, some_left, none_left}
+use Rattle.ldap_ber.proofs.Same.{field_shorter}
+use Rattle.ldap_ber.proofs.RowLemmas.{goes_on_map, ends, fails, some_left, none_left}
 use Rattle.ldap_parts.specs.View.{control_view}
 use Rattle.ldap_parts.specs.Grammar.{HasControl}
 use Rattle.ldap_parts.proofs.Unique.{control_unique, control_some}

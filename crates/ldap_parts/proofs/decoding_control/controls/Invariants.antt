@@ -1,6 +1,6 @@
 -- What the loops of `controls` keep, and what grows less.
 use Rattle.std.proofs.Common.{length, map}
-use Rattle.ldap_fields.proofs.RowLemmas.{SoFar}
+use Rattle.ldap_ber.proofs.RowLemmas.{SoFar}
 use Rattle.ldap_parts.specs.View.{control_view}
 use Rattle.ldap_parts.specs.Grammar.{HasControl}
 use Rattle.ldap_parts.proofs.decoding_control.controls.Given as goal

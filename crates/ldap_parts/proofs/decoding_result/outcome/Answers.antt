@@ -1,6 +1,6 @@
 -- The goals of `outcome` that no tactic closes, each by one lemma over plain lists.
 use Rattle.std.proofs.lemmas.Result.{err_from_is_err_and}
-use Rattle.ldap_fields.proofs.Same.{plain_weaker}
+use Rattle.ldap_ber.proofs.Same.{plain_weaker}
 use Rattle.ldap_parts.proofs.Exits.{outcome_matched, outcome_message}
 use Rattle.ldap_parts.proofs.decoding_result.outcome.Goals as goal
 

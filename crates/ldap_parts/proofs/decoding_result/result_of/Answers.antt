@@ -1,6 +1,6 @@
 -- The goals of `result_of` that no tactic closes, each by one lemma over plain lists.
 use Rattle.std.proofs.lemmas.Result.{err_from_is_err_and}
-use Rattle.ldap_fields.proofs.Same.{plain_weaker}
+use Rattle.ldap_ber.proofs.Same.{plain_weaker}
 use Rattle.ldap_parts.proofs.Exits.{result_end}
 use Rattle.ldap_parts.proofs.decoding_result.result_of.Goals as goal
 

@@ -1,6 +1,6 @@
 -- The goals of `attributes_length` that no tactic closes, each by one lemma over plain lists.
-use Rattle.ldap_fields.proofs.Written.{row_measure}
-use Rattle.ldap_fields.proofs.Measures.{same_measure}
+use Rattle.ldap_ber.proofs.RowsWritten.{row_measure}
+use Rattle.ldap_ber.proofs.Measures.{same_measure}
 use Rattle.ldap_parts.specs.Written.{attribute_content, attribute_bytes}
 use Rattle.ldap_parts.proofs.encoding_attribute.attributes_length.Goals as goal
 

@@ -1,8 +1,8 @@
 -- The goals of `content_length` that no tactic closes, each by one lemma over plain lists.
 use Rattle.std.proofs.Common.{ℕ, List, length, min, ap, ◌∙◌}
-use Rattle.ldap_fields.specs.ldap_ber.Element.{element_bytes}
-use Rattle.ldap_fields.specs.Rows.{row_bytes}
-use Rattle.ldap_fields.proofs.Measures.{two_measure, same_measure}
+use Rattle.ldap_ber.specs.Element.{element_bytes}
+use Rattle.ldap_ber.specs.Rows.{row_bytes}
+use Rattle.ldap_ber.proofs.Measures.{two_measure, same_measure}
 use Rattle.ldap_parts.proofs.encoding_attribute.content_length.Goals as goal
 
 pub returns : goal.returns

@@ -1,9 +1,9 @@
 -- The goals of `put_attribute_list` that no tactic closes, each by one lemma over plain lists.
 use Rattle.std.proofs.Common.{◌∷◌, map, arith}
 use Rattle.std.proofs.lemmas.Result.{err_from_is_err_and}
-use Rattle.ldap_fields.specs.ldap_ber.Element.{length_octets}
-use Rattle.ldap_fields.specs.Rows.{row_bytes}
-use Rattle.ldap_fields.proofs.Puts.{headed, in_range, kept_same, kept_more}
+use Rattle.ldap_ber.specs.Element.{length_octets}
+use Rattle.ldap_ber.specs.Rows.{row_bytes}
+use Rattle.ldap_ber.proofs.Puts.{headed, in_range, kept_same, kept_more}
 use Rattle.ldap_parts.specs.Written.{attribute_bytes}
 use Rattle.ldap_parts.proofs.encoding_attribute.put_attribute_list.Goals as goal
 

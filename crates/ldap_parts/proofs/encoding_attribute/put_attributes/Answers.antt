@@ -1,9 +1,9 @@
 -- The goals of `put_attributes` that no tactic closes, each by one lemma over plain lists.
 use Rattle.std.proofs.Common.{map, take}
 use Rattle.std.proofs.lemmas.Result.{err_from_is_err_and}
-use Rattle.ldap_fields.proofs.Written.{row_step, row_long}
-use Rattle.ldap_fields.proofs.Puts.{kept_front, kept_more}
-use Rattle.ldap_fields.specs.Rows.{row_bytes}
+use Rattle.ldap_ber.proofs.RowsWritten.{row_step, row_long}
+use Rattle.ldap_ber.proofs.Puts.{kept_front, kept_more}
+use Rattle.ldap_ber.specs.Rows.{row_bytes}
 use Rattle.ldap_parts.specs.Written.{attribute_bytes}
 use Rattle.ldap_parts.proofs.encoding_attribute.put_attributes.Goals as goal
 

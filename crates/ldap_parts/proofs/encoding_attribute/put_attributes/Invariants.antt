@@ -1,6 +1,6 @@
 -- What the loops of `put_attributes` keep, and what grows less.
 use Rattle.std.proofs.Common.{◌≡◌, ◌++◌, take, map}
-use Rattle.ldap_fields.specs.Rows.{row_bytes}
+use Rattle.ldap_ber.specs.Rows.{row_bytes}
 use Rattle.ldap_parts.specs.Written.{attribute_bytes}
 use Rattle.ldap_parts.proofs.encoding_attribute.put_attributes.Given as goal
 

@@ -1,10 +1,10 @@
 -- The goals of `put_content` that no tactic closes, each by one lemma over plain lists.
 use Rattle.std.proofs.lemmas.Result.{err_from_is_err_and}
-use Rattle.ldap_fields.specs.ldap_ber.Element.{element_bytes}
-use Rattle.ldap_fields.specs.Rows.{row_bytes}
-use Rattle.ldap_fields.proofs.Puts.{two, kept_same, kept_more}
-use Rattle.ldap_fields.proofs.Written.{element_long}
-use Rattle.ldap_fields.proofs.Measures.{first_long, second_long}
+use Rattle.ldap_ber.specs.Element.{element_bytes}
+use Rattle.ldap_ber.specs.Rows.{row_bytes}
+use Rattle.ldap_ber.proofs.Puts.{two, kept_same, kept_more}
+use Rattle.ldap_ber.proofs.RowsWritten.{element_long}
+use Rattle.ldap_ber.proofs.Measures.{first_long, second_long}
 use Rattle.ldap_parts.proofs.encoding_attribute.put_content.Goals as goal
 
 pub returns-in_err-write-clause-too_long : goal.returns-in_err-write-clause-too_long

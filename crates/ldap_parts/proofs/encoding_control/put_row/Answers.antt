@@ -1,11 +1,11 @@
 -- The goals of `put_row` that no tactic closes, each by one lemma over plain lists.
 use Rattle.std.proofs.Common.{ℕ, List, ◌++◌, ap, ◌∙◌}
 use Rattle.std.proofs.lemmas.Result.{err_from_is_err_and}
-use Rattle.ldap_fields.specs.ldap_ber.Element.{element_bytes}
-use Rattle.ldap_fields.proofs.Written.{row_step, row_long, element_long}
+use Rattle.ldap_ber.specs.Element.{element_bytes}
+use Rattle.ldap_ber.proofs.RowsWritten.{row_step, row_long, element_long}
 use Rattle.ldap_parts.specs.View.{control_view}
 use Rattle.ldap_parts.specs.Written.{control_content, control_bytes}
-use Rattle.ldap_fields.proofs.Puts.{kept_front, same_error}
+use Rattle.ldap_ber.proofs.Puts.{kept_front, same_error}
 use Rattle.ldap_parts.proofs.encoding_control.put_row.Goals as goal
 
 pub returns-in_err-content-clause-too_long : goal.returns-in_err-content-clause-too_long

@@ -1,6 +1,6 @@
 -- What the loops of `put_row` keep, and what grows less.
 use Rattle.std.proofs.Common.{◌≡◌, ◌++◌, take, map}
-use Rattle.ldap_fields.specs.Rows.{row_bytes}
+use Rattle.ldap_ber.specs.Rows.{row_bytes}
 use Rattle.ldap_parts.specs.View.{control_view}
 use Rattle.ldap_parts.specs.Written.{control_bytes}
 use Rattle.ldap_parts.proofs.encoding_control.put_row.Given as goal

@@ -1,6 +1,6 @@
 -- The goals of `authentication_field` that no tactic closes, each by one lemma over plain lists.
 use Rattle.std.proofs.lemmas.Result.{err_from_is_err_and}
-use Rattle.ldap_filter.proofs.ldap_fields.Same.{plain_weaker}
+use Rattle.ldap_filter.proofs.ldap_ber.Same.{plain_weaker}
 use Rattle.ldap_requests.proofs.Binds.{simple_there, sasl_there}
 use Rattle.ldap_requests.proofs.decoding_bind.authentication_field.Goals as goal
 

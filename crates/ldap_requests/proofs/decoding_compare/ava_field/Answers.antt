@@ -1,7 +1,7 @@
 -- The goals of `ava_field` that no tactic closes, each by one lemma over plain lists.
 use Rattle.std.proofs.lemmas.Result.{err_from_is_err_and}
-use Rattle.ldap_filter.proofs.ldap_fields.Same.{plain_weaker}
-use Rattle.ldap_filter.proofs.ldap_fields.RowLemmas.{part_inside}
+use Rattle.ldap_filter.proofs.ldap_ber.Same.{plain_weaker}
+use Rattle.ldap_filter.proofs.ldap_ber.RowLemmas.{part_inside}
 use Rattle.ldap_requests.specs.Grammar.{IsAva}
 use Rattle.ldap_requests.proofs.decoding_compare.ava_field.Goals as goal
 

@@ -1,6 +1,6 @@
 -- The goals of `compare_of` that no tactic closes, each by one lemma over plain lists.
 use Rattle.std.proofs.lemmas.Result.{err_from_is_err_and}
-use Rattle.ldap_filter.proofs.ldap_fields.Same.{plain_weaker}
+use Rattle.ldap_filter.proofs.ldap_ber.Same.{plain_weaker}
 use Rattle.ldap_requests.proofs.Compares.{compare_ava, compare_end}
 use Rattle.ldap_requests.proofs.decoding_compare.compare_of.Goals as goal
 

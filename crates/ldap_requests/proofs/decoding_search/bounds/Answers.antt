@@ -1,6 +1,6 @@
 -- The goals of `bounds` that no tactic closes, each by one lemma over plain lists.
 use Rattle.std.proofs.lemmas.Result.{err_from_is_err_and}
-use Rattle.ldap_filter.proofs.ldap_fields.Same.{plain_weaker}
+use Rattle.ldap_filter.proofs.ldap_ber.Same.{plain_weaker}
 use Rattle.ldap_requests.proofs.Exits.{bounds_flag, bounds_time}
 use Rattle.ldap_requests.proofs.decoding_search.bounds.Goals as goal
 

@@ -1,6 +1,6 @@
 -- Wire, requests: the goals of `target` that no tactic closes, each by one lemma over plain lists.
 use Rattle.std.proofs.lemmas.Result.{err_from_is_err_and}
-use Rattle.ldap_filter.proofs.ldap_fields.Same.{plain_weaker}
+use Rattle.ldap_filter.proofs.ldap_ber.Same.{plain_weaker}
 use Rattle.ldap_requests.proofs.Exits.{target_deref, target_scope}
 use Rattle.ldap_requests.proofs.decoding_search.target.Goals as goal
 

@@ -1,6 +1,6 @@
 -- The goals of `entry_of` that no tactic closes, each by one lemma over plain lists.
 use Rattle.std.proofs.lemmas.Result.{err_from_is_err_and}
-use Rattle.ldap_parts.proofs.ldap_fields.Same.{plain_weaker}
+use Rattle.ldap_parts.proofs.ldap_ber.Same.{plain_weaker}
 use Rattle.ldap_responses.proofs.Exits.{entry_attributes, entry_end}
 use Rattle.ldap_responses.proofs.decoding_entry.entry_of.Goals as goal
 

@@ -1,6 +1,6 @@
 -- The goals of `extended_of` that no tactic closes, each by one lemma over plain lists.
 use Rattle.std.proofs.lemmas.Result.{err_from_is_err_and}
-use Rattle.ldap_parts.proofs.ldap_fields.Same.{plain_weaker}
+use Rattle.ldap_parts.proofs.ldap_ber.Same.{plain_weaker}
 use Rattle.ldap_responses.proofs.Exits.{extended_end, extended_name, extended_value}
 use Rattle.ldap_responses.proofs.decoding_extended.extended_of.Goals as goal
 

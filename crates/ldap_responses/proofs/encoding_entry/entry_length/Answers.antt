@@ -1,9 +1,9 @@
 -- The goals of `entry_length` that no tactic closes, each by one lemma over plain lists.
 use Rattle.std.proofs.Common.{ℕ, List, length, min, map, ap}
 use Rattle.ldap_parts.specs.ldap_ber.Element.{element_bytes}
-use Rattle.ldap_parts.specs.ldap_fields.Rows.{row_bytes}
+use Rattle.ldap_parts.specs.ldap_ber.Rows.{row_bytes}
 use Rattle.ldap_parts.specs.Written.{attribute_bytes}
-use Rattle.ldap_parts.proofs.ldap_fields.Measures.{two_measure, same_measure}
+use Rattle.ldap_parts.proofs.ldap_ber.Measures.{two_measure, same_measure}
 use Rattle.ldap_responses.proofs.encoding_entry.entry_length.Goals as goal
 
 pub returns : goal.returns

@@ -2,11 +2,11 @@
 use Rattle.std.proofs.Common.{map}
 use Rattle.std.proofs.lemmas.Result.{err_from_is_err_and}
 use Rattle.ldap_parts.specs.ldap_ber.Element.{element_bytes}
-use Rattle.ldap_parts.specs.ldap_fields.Rows.{row_bytes}
+use Rattle.ldap_parts.specs.ldap_ber.Rows.{row_bytes}
 use Rattle.ldap_parts.specs.Written.{attribute_bytes}
-use Rattle.ldap_parts.proofs.ldap_fields.Puts.{two, kept_same, kept_more}
-use Rattle.ldap_parts.proofs.ldap_fields.Written.{element_long}
-use Rattle.ldap_parts.proofs.ldap_fields.Measures.{first_long, second_long}
+use Rattle.ldap_parts.proofs.ldap_ber.Puts.{two, kept_same, kept_more}
+use Rattle.ldap_parts.proofs.ldap_ber.RowsWritten.{element_long}
+use Rattle.ldap_parts.proofs.ldap_ber.Measures.{first_long, second_long}
 use Rattle.ldap_responses.proofs.encoding_entry.put_entry.Goals as goal
 
 pub returns-in_err-write-clause-too_long : goal.returns-in_err-write-clause-too_long

@@ -1,6 +1,6 @@
 -- The goals of `full_attribute_of` that no tactic closes, each by one lemma over plain lists.
 use Rattle.std.proofs.lemmas.Result.{err_from_is_err_and}
-use Rattle.ldap_parts.proofs.ldap_fields.Same.{plain_weaker}
+use Rattle.ldap_parts.proofs.ldap_ber.Same.{plain_weaker}
 use Rattle.ldap_parts.specs.View.{attribute_view}
 use Rattle.ldap_updates.proofs.Exits.{full_partial, full_empty, none_mapped}
 use Rattle.ldap_updates.proofs.decoding_add.full_attribute_of.Goals as goal

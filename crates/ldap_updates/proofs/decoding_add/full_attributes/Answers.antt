@@ -1,7 +1,7 @@
 -- The goals of `full_attributes` that no tactic closes, each by one lemma over plain lists.
 use Rattle.std.proofs.lemmas.Result.{err_from_is_err_and}
-use Rattle.ldap_parts.proofs.ldap_fields.Same.{field_shorter}
-use Rattle.ldap_parts.proofs.ldap_fields.RowLemmas.{goes_on_map, ends, fails, some_left, none_left}
+use Rattle.ldap_parts.proofs.ldap_ber.Same.{field_shorter}
+use Rattle.ldap_parts.proofs.ldap_ber.RowLemmas.{goes_on_map, ends, fails, some_left, none_left}
 use Rattle.ldap_parts.specs.View.{attribute_view}
 use Rattle.ldap_updates.specs.Grammar.{HasAttribute}
 use Rattle.ldap_updates.proofs.Unique.{full_unique, full_some}

@@ -1,6 +1,6 @@
 -- What the loops of `full_attributes` keep, and what grows less.
 use Rattle.std.proofs.Common.{length, map}
-use Rattle.ldap_parts.proofs.ldap_fields.RowLemmas.{SoFar}
+use Rattle.ldap_parts.proofs.ldap_ber.RowLemmas.{SoFar}
 use Rattle.ldap_parts.specs.View.{attribute_view}
 use Rattle.ldap_updates.specs.Grammar.{HasAttribute}
 use Rattle.ldap_updates.proofs.decoding_add.full_attributes.Given as goal

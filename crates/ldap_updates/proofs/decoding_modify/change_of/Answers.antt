@@ -1,6 +1,6 @@
 -- The goals of `change_of` that no tactic closes, each by one lemma over plain lists.
 use Rattle.std.proofs.lemmas.Result.{err_from_is_err_and}
-use Rattle.ldap_parts.proofs.ldap_fields.Same.{plain_weaker}
+use Rattle.ldap_parts.proofs.ldap_ber.Same.{plain_weaker}
 use Rattle.ldap_updates.proofs.Modifies.{change_modification, change_end}
 use Rattle.ldap_updates.proofs.decoding_modify.change_of.Goals as goal
 

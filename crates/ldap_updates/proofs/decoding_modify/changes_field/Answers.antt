@@ -1,8 +1,8 @@
 -- The goals of `changes_field` that no tactic closes, each by one lemma over plain lists.
 use Rattle.std.proofs.lemmas.Result.{err_from_is_err_and}
-use Rattle.ldap_parts.proofs.ldap_fields.Same.{plain_weaker}
-use Rattle.ldap_parts.proofs.ldap_fields.RowLemmas.{part_inside}
-use Rattle.ldap_parts.specs.ldap_fields.Rows.{AreRow}
+use Rattle.ldap_parts.proofs.ldap_ber.Same.{plain_weaker}
+use Rattle.ldap_parts.proofs.ldap_ber.RowLemmas.{part_inside}
+use Rattle.ldap_parts.specs.ldap_ber.Rows.{AreRow}
 use Rattle.ldap_updates.specs.Grammar.{HasChange}
 use Rattle.ldap_updates.proofs.decoding_modify.changes_field.Goals as goal
 

@@ -1,7 +1,7 @@
 -- The goals of `changes_of` that no tactic closes, each by one lemma over plain lists.
 use Rattle.std.proofs.lemmas.Result.{err_from_is_err_and}
-use Rattle.ldap_parts.proofs.ldap_fields.Same.{field_shorter}
-use Rattle.ldap_parts.proofs.ldap_fields.RowLemmas.{goes_on_map, ends, fails, some_left, none_left}
+use Rattle.ldap_parts.proofs.ldap_ber.Same.{field_shorter}
+use Rattle.ldap_parts.proofs.ldap_ber.RowLemmas.{goes_on_map, ends, fails, some_left, none_left}
 use Rattle.ldap_updates.specs.View.{change_view}
 use Rattle.ldap_updates.specs.Grammar.{HasChange}
 use Rattle.ldap_updates.proofs.Modifies.{change_unique, change_some}

@@ -1,6 +1,6 @@
 -- What the loops of `changes_of` keep, and what grows less.
 use Rattle.std.proofs.Common.{length, map}
-use Rattle.ldap_parts.proofs.ldap_fields.RowLemmas.{SoFar}
+use Rattle.ldap_parts.proofs.ldap_ber.RowLemmas.{SoFar}
 use Rattle.ldap_updates.specs.View.{change_view}
 use Rattle.ldap_updates.specs.Grammar.{HasChange}
 use Rattle.ldap_updates.proofs.decoding_modify.changes_of.Given as goal

@@ -1,6 +1,6 @@
 -- The goals of `new_name` that no tactic closes, each by one lemma over plain lists.
 use Rattle.std.proofs.lemmas.Result.{err_from_is_err_and}
-use Rattle.ldap_parts.proofs.ldap_fields.Same.{plain_weaker}
+use Rattle.ldap_parts.proofs.ldap_ber.Same.{plain_weaker}
 use Rattle.ldap_updates.proofs.Names.{name_newrdn, name_flag}
 use Rattle.ldap_updates.proofs.decoding_name.new_name.Goals as goal
 

@@ -2,10 +2,10 @@
 use Rattle.std.proofs.Common.{ℕ, List, ◌++◌, ap, ◌∙◌}
 use Rattle.std.proofs.lemmas.Result.{err_from_is_err_and}
 use Rattle.ldap_parts.specs.ldap_ber.Element.{element_bytes}
-use Rattle.ldap_parts.proofs.ldap_fields.Written.{row_step, row_long, element_long}
+use Rattle.ldap_parts.proofs.ldap_ber.RowsWritten.{row_step, row_long, element_long}
 use Rattle.ldap_updates.specs.View.{change_view}
 use Rattle.ldap_updates.specs.Written.{change_content, change_bytes}
-use Rattle.ldap_parts.proofs.ldap_fields.Puts.{same_error}
+use Rattle.ldap_parts.proofs.ldap_ber.Puts.{same_error}
 use Rattle.ldap_updates.proofs.encoding_modify.put_changes.Goals as goal
 
 pub returns-in_err-content-clause-too_long : goal.returns-in_err-content-clause-too_long

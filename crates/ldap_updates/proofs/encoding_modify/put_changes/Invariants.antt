@@ -1,6 +1,6 @@
 -- What the loops of `put_changes` keep, and what grows less.
 use Rattle.std.proofs.Common.{◌≡◌, ◌++◌, take, map}
-use Rattle.ldap_parts.specs.ldap_fields.Rows.{row_bytes}
+use Rattle.ldap_parts.specs.ldap_ber.Rows.{row_bytes}
 use Rattle.ldap_updates.specs.View.{change_view}
 use Rattle.ldap_updates.specs.Written.{change_bytes}
 use Rattle.ldap_updates.proofs.encoding_modify.put_changes.Given as goal

@@ -1,0 +1,26 @@
+-- The goals of `put_values` that no tactic closes, each by one lemma over plain lists.
+use Rattle.std.proofs.Common.{◌∙◌}
+use Rattle.std.proofs.lemmas.Result.{err_from_is_err_and}
+use Rattle.ldap_ber.specs.Element.{element_bytes}
+use Rattle.ldap_ber.proofs.Puts.{kept_front}
+use Rattle.ldap_ber.proofs.RowsWritten.{row_step, row_long, element_long}
+use Rattle.ldap_ber.proofs.writing_rows.put_values.Goals as goal
+
+pub returns-in_err-write-clause-too_long : goal.returns-in_err-write-clause-too_long
+returns-in_err-write-clause-too_long c =
+    let p = err_from_is_err_and c.from_residual.result c.from_residual.ensures.1 in
+    rw (p.1, p.2) (λ h. row_long (element_bytes 4) (λ v. v.items) c.args.values.now c.loop-value.value-index
+    c.value-item.result 4294967296 c.loop-value-test.true c.value-item.is
+    (element_long 4 _ 4294967296 (rw c.deref.ensures.value at (c.in_err-write.ensures.too_long.0 h))))
+
+pub loop-value-preserved : goal.loop-value-preserved
+loop-value-preserved c =
+    row_step (element_bytes 4) (λ v. v.items) c.args.out.now.items c.loop-value.out.items c.write.new.out.items
+    c.args.values.now c.loop-value.value-index c.value-item.result c.loop-value-test.true c.value-item.is
+    c.loop-value.invariant (rw c.deref.ensures.value at c.in_ok-write.ensures.ok)
+
+pub returns-in_err-write-clause-kept : goal.returns-in_err-write-clause-kept
+returns-in_err-write-clause-kept c = kept_front _ _ _ (c.in_err-write.ensures.err ∙ c.loop-value.invariant)
+
+pub returns-clause-kept : goal.returns-clause-kept
+returns-clause-kept c = kept_front _ _ _ c.loop-value.invariant
