@@ -9,7 +9,7 @@ use Rattle.entry_updates.specs.Finishing.{renamed}
 use Rattle.entry_updates.specs.Adding.{attributes_asked}
 use Rattle.entry_updates.specs.Modifying.{attributes_changed}
 use Rattle.entry_updates.specs.ldap_op.ldap_parts.Values.{PartialAttributeValue}
-use Rattle.entry_updates.specs.ldap_updates.Values.{AddRequestValue, ChangeValue, ModifyRequestValue, ModifyDnRequestValue}
+use Rattle.entry_updates.specs.ldap_parts.UpdateValues.{AddRequestValue, ChangeValue, ModifyRequestValue, ModifyDnRequestValue}
 use Rattle.entry_updates.specs.ldap_op.Values.{OpValue, add, delete, modify, modify_dn, noop}
 use Rattle.indexed_tree.specs.dir_tree.Directory.{name_eq, begins}
 use Rattle.indexed_tree.specs.Directory.{Directory, NamedEntry}

@@ -2,7 +2,7 @@
 ghost use Rattle.std.specs.Prelude.{◌≡◌, ◌++◌, Ok, true, false, is_some, IfOk, IfErr, OnOk, map};
 ghost use Rattle.indexed_tree.specs.ldap_dn.Names.{rdns};
 ghost use Rattle.entry_updates.specs.ldap_op.ldap_parts.View.{attribute_view};
-ghost use Rattle.entry_updates.specs.ldap_updates.View.{add_view};
+ghost use Rattle.entry_updates.specs.ldap_parts.UpdateView.{add_view};
 ghost use Rattle.indexed_tree.specs.dir_entry.Entry.{IsKeyedBy};
 ghost use Rattle.indexed_tree.specs.dir_tree.Directory.{find, has_footing};
 ghost use Rattle.indexed_tree.specs.dir_tree.Placed.{name_placed};

@@ -1,6 +1,6 @@
 //! Judges a modify and makes the changed entry. The tree stays as it is.
 ghost use Rattle.std.specs.Prelude.{◌≡◌, Ok, IfOk, IfErr, map};
-ghost use Rattle.entry_updates.specs.ldap_updates.View.{change_view, modify_view};
+ghost use Rattle.entry_updates.specs.ldap_parts.UpdateView.{change_view, modify_view};
 ghost use Rattle.indexed_tree.specs.dir_entry.Entry.{IsKeyedBy};
 ghost use Rattle.indexed_tree.specs.Stored.{entered_of, named, directory, AreKeyedBy};
 ghost use Rattle.dir_store.specs.Updates.{change_of, change_asked};

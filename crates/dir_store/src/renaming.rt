@@ -2,7 +2,7 @@
 ghost use Rattle.std.specs.Prelude.{◌≡◌, ◌++◌, ◌∷◌, [], true, false, Ok, Some, IfOk, IfErr, OnOk, is_some, map};
 ghost use Rattle.std.specs.Option.{option_map};
 ghost use Rattle.indexed_tree.specs.ldap_dn.Names.{rdns};
-ghost use Rattle.entry_updates.specs.ldap_updates.View.{modify_dn_view};
+ghost use Rattle.entry_updates.specs.ldap_parts.UpdateView.{modify_dn_view};
 ghost use Rattle.indexed_tree.specs.dir_entry.Entry.{IsKeyedBy};
 ghost use Rattle.indexed_tree.specs.dir_tree.Directory.{find, name_eq, begins};
 ghost use Rattle.indexed_tree.specs.dir_tree.Placed.{name_placed};

@@ -4,7 +4,7 @@ ghost use Rattle.std.specs.Prelude.{◌≡◌, ◌+◌, [], Ok, IfOk, IfErr, OnO
 ghost use Rattle.std.specs.Arc.{arc_value};
 ghost use Rattle.indexed_tree.specs.Stored.{directory, AreKeyedBy, NumbersBelow};
 ghost use Rattle.indexed_tree.specs.directory_api.View.{reply_view};
-ghost use Rattle.entry_updates.specs.ldap_updates.View.{add_view, modify_view, modify_dn_view};
+ghost use Rattle.entry_updates.specs.ldap_parts.UpdateView.{add_view, modify_view, modify_dn_view};
 ghost use Rattle.entry_updates.specs.ldap_op.View.{update_view};
 ghost use Rattle.dir_store.specs.Updates.{added, deleted, modified, renamed_all, updated, applied, reply_to};
 ghost use Rattle.dir_store.specs.private.View.{RefusedWith};

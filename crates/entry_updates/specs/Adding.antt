@@ -2,7 +2,7 @@
 use Rattle.std.specs.Prelude.{ℕ, List, [], ◌∷◌, Option, None, Some, Result, Ok, Err}
 use Rattle.entry_changes.specs.ldap_schema.Schema.{SchemaModel, find}
 use Rattle.entry_changes.specs.ldap_dn.Names.{TypeAndValue}
-use Rattle.ldap_op.specs.ldap_updates.ldap_parts.Values.{PartialAttributeValue}
+use Rattle.ldap_op.specs.ldap_parts.Values.{PartialAttributeValue}
 use Rattle.entry_changes.specs.dir_entry.Entry.{AttributeModel}
 use Rattle.entry_changes.specs.dir_entry.Adding.{with_attribute}
 use Rattle.entry_changes.specs.Naming.{and_then}

@@ -3,5 +3,5 @@ pub mod Finishing
 pub mod Modifying
 pub mod Refused
 -- what layers above name of the crates below
-pub use Rattle.ldap_op.specs.ldap_updates as ldap_updates
+pub use Rattle.ldap_op.specs.ldap_parts as ldap_parts
 pub use Rattle.ldap_op.specs as ldap_op

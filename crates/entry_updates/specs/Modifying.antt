@@ -3,9 +3,9 @@ use Rattle.std.specs.Prelude.{ℕ, List, [], ◌∷◌, Bool, true, false, Resul
 use Rattle.std.specs.Option.{ok_or}
 use Rattle.entry_changes.specs.ldap_schema.Schema.{SchemaModel, find}
 use Rattle.entry_changes.specs.ldap_dn.Names.{TypeAndValue}
-use Rattle.ldap_op.specs.ldap_updates.Values.{ChangeValue}
-use Rattle.ldap_op.specs.ldap_updates.declared.modify.ModifyOperation.{ModifyOperation}
-use Rattle.ldap_op.specs.ldap_updates.declared.modify.ModifyOperation.TheVariants.{Add, Delete, Replace, Increment}
+use Rattle.ldap_op.specs.ldap_parts.UpdateValues.{ChangeValue}
+use Rattle.ldap_op.specs.ldap_parts.declared.modify.ModifyOperation.{ModifyOperation}
+use Rattle.ldap_op.specs.ldap_parts.declared.modify.ModifyOperation.TheVariants.{Add, Delete, Replace, Increment}
 use Rattle.entry_changes.specs.dir_entry.Entry.{AttributeModel}
 use Rattle.entry_changes.specs.dir_entry.Adding.{refuse}
 use Rattle.entry_changes.specs.Editing.{with_added, with_deleted, with_replaced}

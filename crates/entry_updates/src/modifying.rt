@@ -1,7 +1,7 @@
 //! Makes the entry that a modify asks for, or refuses it. The old entry stays as it is.
 ghost use Rattle.std.specs.Prelude.{◌≡◌, Ok, map, IfOk, IfErr};
 ghost use Rattle.entry_changes.specs.dir_entry.Entry.{attributes_of, IsKeyedBy};
-ghost use Rattle.ldap_op.specs.ldap_updates.View.{change_view};
+ghost use Rattle.ldap_op.specs.ldap_parts.UpdateView.{change_view};
 ghost use Rattle.entry_updates.specs.Modifying.{is_increment as is_increment_of, with_change, changed, all_changed, attributes_changed};
 ghost use Rattle.entry_updates.specs.Refused.{RefusedAs};
 

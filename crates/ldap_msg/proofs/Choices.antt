@@ -1,23 +1,23 @@
 -- The first octet of an operation says which operation it is.
 use Rattle.std.proofs.Common.{◌≡◌, ℕ, Bool, true, false, eqb, List, refl, sym, ap, subst, ◌∙◌}
 use Rattle.std.specs.Prelude.{◌||◌, ℤ}
-use Rattle.ldap_updates.specs.ldap_parts.Values.{LdapResultValue}
+use Rattle.ldap_parts.specs.Values.{LdapResultValue}
 use Rattle.ldap_requests.specs.Values.{BindRequestValue, SearchRequestValue, CompareRequestValue, ExtendedRequestValue}
-use Rattle.ldap_updates.specs.Values.{ModifyRequestValue, AddRequestValue, ModifyDnRequestValue}
-use Rattle.ldap_responses.specs.Values.{SearchResultEntryValue, ExtendedResponseValue}
-use Rattle.ldap_updates.specs.ldap_parts.Grammar.{IsLdapResult}
+use Rattle.ldap_parts.specs.UpdateValues.{ModifyRequestValue, AddRequestValue, ModifyDnRequestValue}
+use Rattle.ldap_parts.specs.ResponseValues.{SearchResultEntryValue, ExtendedResponseValue}
+use Rattle.ldap_parts.specs.Grammar.{IsLdapResult}
 use Rattle.ldap_requests.specs.Grammar.{IsBindRequest, IsUnbindRequest, IsSearchRequest, IsCompareRequest, IsAbandonRequest, IsExtendedRequest}
-use Rattle.ldap_updates.specs.Grammar.{IsModifyRequest, IsAddRequest, IsDelRequest, IsModifyDnRequest}
-use Rattle.ldap_responses.specs.Grammar.{IsSearchResultEntry, IsExtendedResponse}
+use Rattle.ldap_parts.specs.UpdateGrammar.{IsModifyRequest, IsAddRequest, IsDelRequest, IsModifyDnRequest}
+use Rattle.ldap_parts.specs.ResponseGrammar.{IsSearchResultEntry, IsExtendedResponse}
 use Rattle.ldap_requests.proofs.Binds.{bind_one}
 use Rattle.ldap_requests.proofs.Unique.{search_one}
-use Rattle.ldap_updates.proofs.Modifies.{modify_one}
-use Rattle.ldap_updates.proofs.Unique.{add_one}
-use Rattle.ldap_updates.proofs.Names.{delete_one, modify_dn_one}
+use Rattle.ldap_parts.proofs.Modifies.{modify_one}
+use Rattle.ldap_parts.proofs.UpdatesUnique.{add_one}
+use Rattle.ldap_parts.proofs.Names.{delete_one, modify_dn_one}
 use Rattle.ldap_requests.proofs.Compares.{compare_one}
 use Rattle.ldap_requests.proofs.Extends.{abandon_one, extended_request_one}
-use Rattle.ldap_updates.proofs.ldap_parts.Unique.{result_one}
-use Rattle.ldap_responses.proofs.Unique.{entry_one, extended_one}
+use Rattle.ldap_parts.proofs.Unique.{result_one}
+use Rattle.ldap_parts.proofs.ResponsesUnique.{entry_one, extended_one}
 use Rattle.ldap_msg.specs.Messages.{bind, unbind, search, modify, add, delete, modify_dn, compare, abandon, extended_request, RequestValue, bind_response, search_entry, search_done, modify_response, add_response, delete_response, modify_dn_response, compare_response, extended, ResponseValue, OperationValue, request, response}
 use Rattle.ldap_msg.specs.Grammar.{request_octet, IsRequestContent, response_octet, IsResponseContent, operation_octet, IsOperation}
 

@@ -4,9 +4,9 @@ use Rattle.ldap_requests.specs.ldap_ber.declared.message_fault.MsgFault.{MsgFaul
 use Rattle.ldap_requests.specs.ldap_ber.declared.message_fault.MsgFault.TheVariants.{TooLarge, NotAMessage, TooDeep, TooManyItems, NoMemory}
 use Rattle.ldap_requests.specs.ldap_ber.Fields.{HasField, HasNumber}
 use Rattle.ldap_requests.proofs.ldap_ber.Same.{step, same_field, number_unique}
-use Rattle.ldap_updates.specs.ldap_parts.Values.{ControlValue}
+use Rattle.ldap_parts.specs.Values.{ControlValue}
 use Rattle.ldap_msg.specs.Messages.{OperationValue, MessageValue}
-use Rattle.ldap_updates.specs.ldap_parts.Grammar.{AreControls}
+use Rattle.ldap_parts.specs.Grammar.{AreControls}
 use Rattle.ldap_msg.specs.Grammar.{operation_octet, IsOperation, HasOperation, IsIdFor, IsMessageContent, IsMessage}
 use Rattle.ldap_requests.specs.Limits.{FilterStandsAt, IsLimitFault}
 use Rattle.ldap_msg.specs.Limits.{OperationHasFilterAt, ContentHasFilterAt, HasFilterAt, IsFault}

@@ -4,18 +4,18 @@ use Rattle.std.specs.Str.{IsUtf8}
 use Rattle.std.proofs.lemmas.List.{append-nil}
 use Rattle.ldap_requests.specs.ldap_ber.Written.{number_bytes, row_or_none_bytes}
 use Rattle.ldap_requests.proofs.ldap_ber.Spelled.{IsShort, inner, left, right, number, small_number, part, row_or_none, regroup_three}
-use Rattle.ldap_updates.specs.ldap_parts.Grammar.{HasControl, AreControls}
+use Rattle.ldap_parts.specs.Grammar.{HasControl, AreControls}
 use Rattle.ldap_requests.specs.ldap_ber.Rows.{none}
-use Rattle.ldap_updates.specs.ldap_parts.Written.{control_bytes}
-use Rattle.ldap_updates.proofs.ldap_parts.Spelled.{control, plain as result_written}
+use Rattle.ldap_parts.specs.Written.{control_bytes}
+use Rattle.ldap_parts.proofs.Spelled.{control, plain as result_written}
 use Rattle.ldap_requests.proofs.Binds.{bind_written}
 use Rattle.ldap_requests.proofs.Spelled.{search_request as search_written}
-use Rattle.ldap_updates.proofs.Modifies.{modify_written}
-use Rattle.ldap_updates.proofs.Spelled.{add as add_written}
-use Rattle.ldap_updates.proofs.Names.{delete_written, modify_dn_written}
+use Rattle.ldap_parts.proofs.Modifies.{modify_written}
+use Rattle.ldap_parts.proofs.UpdatesSpelled.{add as add_written}
+use Rattle.ldap_parts.proofs.Names.{delete_written, modify_dn_written}
 use Rattle.ldap_requests.proofs.Compares.{compare_written}
 use Rattle.ldap_requests.proofs.Extends.{abandon_written, extended_request_written}
-use Rattle.ldap_responses.proofs.Spelled.{entry as search_entry_written, extended_response as extended_written}
+use Rattle.ldap_parts.proofs.ResponsesSpelled.{entry as search_entry_written, extended_response as extended_written}
 use Rattle.ldap_msg.specs.Messages.{bind, unbind, search, modify, add, delete, modify_dn, compare, abandon, extended_request, RequestValue, bind_response, search_entry, search_done, modify_response, add_response, delete_response, modify_dn_response, compare_response, extended, ResponseValue, OperationValue, request, response, MessageValue}
 use Rattle.ldap_msg.specs.Grammar.{request_octet, IsRequestContent, response_octet, IsResponseContent, operation_octet, IsOperation, IsMessageContent, IsMessage}
 use Rattle.ldap_msg.specs.Written.{request_content, response_content, operation_content, operation_bytes, message_content, message_bytes, IsRequestInRange, IsResponseInRange, IsOperationInRange, IsInRange}

@@ -4,11 +4,11 @@ use Rattle.std.proofs.lemmas.List.{append-nil, append_cancel_right}
 use Rattle.ldap_requests.specs.ldap_ber.Fields.{HasPart}
 use Rattle.ldap_requests.proofs.ldap_ber.Same.{IsUnique, step, same_field, number_unique}
 use Rattle.ldap_requests.proofs.ldap_ber.RowLemmas.{IsOneValue, part_unique}
-use Rattle.ldap_updates.specs.ldap_parts.Values.{ControlValue}
+use Rattle.ldap_parts.specs.Values.{ControlValue}
 use Rattle.ldap_msg.specs.Messages.{OperationValue, MessageValue}
 use Rattle.ldap_msg.specs.Grammar.{operation_octet, IsOperation, HasOperation, IsMessageContent, IsMessage}
 use Rattle.ldap_requests.proofs.ldap_ber.Parts.{number_part}
-use Rattle.ldap_updates.proofs.ldap_parts.Unique.{controls_one}
+use Rattle.ldap_parts.proofs.Unique.{controls_one}
 use Rattle.ldap_msg.proofs.Choices.{operation_same}
 
 pub operation_unique : IsUnique HasOperation

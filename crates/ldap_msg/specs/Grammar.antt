@@ -1,10 +1,10 @@
 -- The octets that spell a message (RFC 4511 4 and Appendix B; X.690 as RFC 4511 5.1 narrows it).
 use Rattle.std.specs.Prelude.{◌^◌, ◌≤◌, ℕ, List, []}
 use Rattle.ldap_requests.specs.ldap_ber.Fields.{Seq, HasNumber, HasPart}
-use Rattle.ldap_updates.specs.ldap_parts.Grammar.{IsLdapResult, AreControls}
+use Rattle.ldap_parts.specs.Grammar.{IsLdapResult, AreControls}
 use Rattle.ldap_requests.specs.Grammar.{IsBindRequest, IsUnbindRequest, IsSearchRequest, IsCompareRequest, IsAbandonRequest, IsExtendedRequest}
-use Rattle.ldap_updates.specs.Grammar.{IsModifyRequest, IsAddRequest, IsDelRequest, IsModifyDnRequest}
-use Rattle.ldap_responses.specs.Grammar.{IsSearchResultEntry, IsExtendedResponse}
+use Rattle.ldap_parts.specs.UpdateGrammar.{IsModifyRequest, IsAddRequest, IsDelRequest, IsModifyDnRequest}
+use Rattle.ldap_parts.specs.ResponseGrammar.{IsSearchResultEntry, IsExtendedResponse}
 use Rattle.ldap_msg.specs.Messages.{bind, unbind, search, modify, add, delete, modify_dn, compare, abandon, extended_request, RequestValue, bind_response, search_entry, search_done, modify_response, add_response, delete_response, modify_dn_response, compare_response, extended, ResponseValue, OperationValue, request, response, MessageValue}
 
 -- the first octet of a request: its application tag, constructed but for a NULL, a text or an integer (RFC 4511 4.2 to

@@ -7,6 +7,5 @@ pub mod HexLines
 pub mod private
 -- what layers above name of the crates below
 pub use Rattle.ldap_requests.specs.ldap_ber as ldap_ber
-pub use Rattle.ldap_updates.specs.ldap_parts as ldap_parts
+pub use Rattle.ldap_parts.specs as ldap_parts
 pub use Rattle.ldap_requests.specs as ldap_requests
-pub use Rattle.ldap_responses.specs as ldap_responses

@@ -1,9 +1,9 @@
 -- A message without where it lies in memory (RFC 4511 4); a text is its octets.
 use Rattle.std.specs.Prelude.{ℕ, ℤ, List}
-pub use Rattle.ldap_updates.specs.ldap_parts.Values.{PartialAttributeValue, LdapResultValue, ControlValue}
+pub use Rattle.ldap_parts.specs.Values.{PartialAttributeValue, LdapResultValue, ControlValue}
 pub use Rattle.ldap_requests.specs.Values.{BindRequestValue, SearchRequestValue, CompareRequestValue, ExtendedRequestValue}
-pub use Rattle.ldap_updates.specs.Values.{ModifyRequestValue, AddRequestValue, ModifyDnRequestValue}
-pub use Rattle.ldap_responses.specs.Values.{SearchResultEntryValue, ExtendedResponseValue}
+pub use Rattle.ldap_parts.specs.UpdateValues.{ModifyRequestValue, AddRequestValue, ModifyDnRequestValue}
+pub use Rattle.ldap_parts.specs.ResponseValues.{SearchResultEntryValue, ExtendedResponseValue}
 
 -- an operation that a client sends
 pub data RequestValue : Type 0 where

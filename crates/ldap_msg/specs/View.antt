@@ -1,9 +1,9 @@
 -- The value that a message in memory stands for.
 use Rattle.std.specs.Prelude.{map, string_bytes}
-pub use Rattle.ldap_updates.specs.ldap_parts.View.{attribute_view, result_view, control_view}
+pub use Rattle.ldap_parts.specs.View.{attribute_view, result_view, control_view}
 pub use Rattle.ldap_requests.specs.View.{bind_view, search_view, compare_view, extended_request_view}
-pub use Rattle.ldap_updates.specs.View.{modify_view, add_view, modify_dn_view}
-pub use Rattle.ldap_responses.specs.View.{entry_view, extended_view}
+pub use Rattle.ldap_parts.specs.UpdateView.{modify_view, add_view, modify_dn_view}
+pub use Rattle.ldap_parts.specs.ResponseView.{entry_view, extended_view}
 use Rattle.ldap_msg.specs.Messages.{RequestValue, bind, unbind, search, modify, add, delete, modify_dn, compare, abandon, extended_request, ResponseValue, bind_response, search_entry, search_done, modify_response, add_response, delete_response, modify_dn_response, compare_response, extended, OperationValue, request, response, MessageValue}
 use Rattle.ldap_msg.specs.declared.message.Request.{Request}
 use Rattle.ldap_msg.specs.declared.message.Request.TheVariants.{Bind, Unbind, Search, Modify, Add, Delete, ModifyDn, Compare, Abandon, Extended}

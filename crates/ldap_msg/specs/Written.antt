@@ -5,10 +5,10 @@ use Rattle.std.specs.List.{AllByRecursion}
 use Rattle.ldap_requests.specs.ldap_ber.Element.{element_bytes}
 use Rattle.ldap_requests.specs.ldap_ber.Values.{integer_octets, IsLong}
 use Rattle.ldap_requests.specs.ldap_ber.Written.{number_bytes, row_or_none_bytes}
-use Rattle.ldap_updates.specs.ldap_parts.Written.{result_content, control_bytes, IsResultInRange}
+use Rattle.ldap_parts.specs.Written.{result_content, control_bytes, IsResultInRange}
 use Rattle.ldap_requests.specs.Written.{bind_content, search_content, compare_content, extended_request_content, IsBindInRange, IsSearchInRange, IsCompareInRange, IsExtendedRequestInRange}
-use Rattle.ldap_updates.specs.Written.{modify_content, add_content, modify_dn_content, IsModifyInRange, IsAddInRange, IsModifyDnInRange}
-use Rattle.ldap_responses.specs.Written.{entry_content, extended_content, IsEntryInRange, IsExtendedInRange}
+use Rattle.ldap_parts.specs.UpdatesWritten.{modify_content, add_content, modify_dn_content, IsModifyInRange, IsAddInRange, IsModifyDnInRange}
+use Rattle.ldap_parts.specs.ResponsesWritten.{entry_content, extended_content, IsEntryInRange, IsExtendedInRange}
 use Rattle.ldap_msg.specs.Messages.{bind, unbind, search, modify, add, delete, modify_dn, compare, abandon, extended_request, RequestValue, bind_response, search_entry, search_done, modify_response, add_response, delete_response, modify_dn_response, compare_response, extended, ResponseValue, OperationValue, request, response, MessageValue}
 use Rattle.ldap_msg.specs.Grammar.{operation_octet, IsIdFor}
 

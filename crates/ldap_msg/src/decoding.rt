@@ -3,9 +3,9 @@
 ghost use Rattle.std.specs.Prelude.{◌≡◌, ◌≤◌, ◌++◌, ℕ, List, length, map, IfOk, IfErr, OnOk, MatchResult};
 ghost use Rattle.std.specs.Bool.{OnTrue, OnFalse};
 ghost use Rattle.ldap_requests.specs.ldap_ber.Faults.{IsPlainFault};
-ghost use Rattle.ldap_updates.specs.ldap_parts.Values.{ControlValue};
-ghost use Rattle.ldap_updates.specs.ldap_parts.View.{control_view};
-ghost use Rattle.ldap_updates.specs.ldap_parts.Grammar.{AreControls};
+ghost use Rattle.ldap_parts.specs.Values.{ControlValue};
+ghost use Rattle.ldap_parts.specs.View.{control_view};
+ghost use Rattle.ldap_parts.specs.Grammar.{AreControls};
 ghost use Rattle.ldap_msg.specs.Messages.{OperationValue, MessageValue};
 ghost use Rattle.ldap_msg.specs.View.{operation_view, view};
 ghost use Rattle.ldap_msg.specs.Grammar.{operation_octet, IsOperation, HasOperation, IsIdFor, IsMessageContent, IsMessage};
@@ -16,7 +16,7 @@ use crate::decoding_request::{is_request, request_of};
 use crate::decoding_response::response_of;
 use crate::message::{Message, ProtocolOp};
 use ldap_requests::{MsgFault, element, field, number_field};
-use ldap_updates::{Control, controls_of};
+use ldap_parts::{Control, controls_of};
 use std::alloc::Global;
 
 /// How many octets a message may have, its header included.

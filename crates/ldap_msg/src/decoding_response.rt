@@ -8,8 +8,7 @@ ghost use Rattle.ldap_msg.specs.Grammar.{response_octet, IsResponseContent};
 
 use crate::message::Response;
 use ldap_requests::MsgFault;
-use ldap_responses::{entry_of, extended_of};
-use ldap_updates::result_of;
+use ldap_parts::{entry_of, extended_of, result_of};
 use std::alloc::Global;
 
 /// The response of this first octet whose content this is.

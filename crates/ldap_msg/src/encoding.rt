@@ -3,7 +3,7 @@
 ghost use Rattle.std.specs.Prelude.{◌≡◌, ◌%◌, ◌^◌, ◌<◌, ◌≤◌, ◌++◌, ◌∷◌, ◌⊎◌, [], ℕ, List, drop, length, map, min, IfOk, IfErr, IsErrOf, OnOk, OnErr};
 ghost use Rattle.ldap_requests.specs.ldap_ber.Element.{length_octets, element_bytes};
 ghost use Rattle.ldap_requests.specs.ldap_ber.Written.{number_bytes};
-ghost use Rattle.ldap_responses.specs.Written.{entry_content};
+ghost use Rattle.ldap_parts.specs.ResponsesWritten.{entry_content};
 ghost use Rattle.ldap_msg.specs.Messages.{MessageValue, response, search_entry};
 ghost use Rattle.ldap_msg.specs.View.{entry_view, operation_view, view};
 ghost use Rattle.ldap_msg.specs.Grammar.{operation_octet, IsMessage};
@@ -14,11 +14,7 @@ use crate::encoding_request::{request_content, request_octet};
 use crate::encoding_response::{response_content, response_octet};
 use crate::message::{Message, ProtocolOp, Response};
 use ldap_requests::{WriteError, put_number};
-use ldap_responses::{
-    AttributeParts, SearchResultEntry, add_lengths, element_length, entry_length, number_length,
-    put_entry, write_head,
-};
-use ldap_updates::put_controls;
+use ldap_parts::{AttributeParts, SearchResultEntry, add_lengths, element_length, entry_length, number_length, put_entry, write_head, put_controls};
 use std::alloc::Global;
 
 /// The greatest length that a message's content may have.

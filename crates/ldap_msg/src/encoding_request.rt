@@ -10,7 +10,7 @@ use ldap_requests::{
     WriteError, abandon_content, bind_content, compare_content, extended_request_content,
     search_content,
 };
-use ldap_updates::{add_content, delete_content, modify_content, modify_dn_content};
+use ldap_parts::{add_content, delete_content, modify_content, modify_dn_content};
 use std::alloc::Global;
 
 /// The content of a request.

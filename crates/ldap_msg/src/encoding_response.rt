@@ -7,8 +7,7 @@ ghost use Rattle.ldap_msg.specs.Written.{response_content};
 
 use crate::message::Response;
 use ldap_requests::WriteError;
-use ldap_responses::{entry_content, extended_content};
-use ldap_updates::result_content;
+use ldap_parts::{entry_content, extended_content, result_content};
 use std::alloc::Global;
 
 /// The content of a response.

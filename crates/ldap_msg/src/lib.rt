@@ -1,7 +1,7 @@
 //! Reads and writes whole LDAP messages.
 //!
 //! The envelope and the choice of operations: whole messages. The first octet says which operation it is; no proof compares the operations
-//! two by two. To add an operation, put its content into `ldap_requests`, `ldap_updates` or `ldap_responses`. Then add a case here to the
+//! two by two. To add an operation, put its content into `ldap_requests` or `ldap_parts`. Then add a case here to the
 //! value (`Messages`), the view, the grammar (`request_octet`, `IsRequestContent`), the written form and the lists of `proofs/Choices`.
 //!
 //! Proved: whole messages are read exactly and written in their one form (`decode`, `encode`, `put_search_entry`, `one_message`,
@@ -23,11 +23,5 @@ pub use ldap_requests::{
     DerefAliases, ExtendedRequest, Filter, MsgFault, SaslCredentials, Scope, SearchRequest,
     WriteError as EncodeError, header, write,
 };
-pub use ldap_responses::{
-    AttributeParts, ExtendedResponse, SearchResultEntry, add_lengths, element_length, write_head,
-};
-pub use ldap_updates::{
-    AddRequest, Attribute, Change, Control, LdapResult, ModifyDnRequest, ModifyOperation,
-    ModifyRequest, PartialAttribute, ResultCode,
-};
+pub use ldap_parts::{AttributeParts, ExtendedResponse, SearchResultEntry, add_lengths, element_length, write_head, AddRequest, Attribute, Change, Control, LdapResult, ModifyDnRequest, ModifyOperation, ModifyRequest, PartialAttribute, ResultCode};
 pub use message::{Message, ProtocolOp, Request, Response};

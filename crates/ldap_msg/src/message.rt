@@ -1,8 +1,7 @@
 //! The envelope and its operations.
 
 use ldap_requests::{BindRequest, CompareRequest, ExtendedRequest, SearchRequest};
-use ldap_responses::{ExtendedResponse, SearchResultEntry};
-use ldap_updates::{AddRequest, Control, LdapResult, ModifyDnRequest, ModifyRequest};
+use ldap_parts::{ExtendedResponse, SearchResultEntry, AddRequest, Control, LdapResult, ModifyDnRequest, ModifyRequest};
 
 /// LDAPMessage (RFC 4511 4.1.1).
 #[derive(Debug, Drop)]

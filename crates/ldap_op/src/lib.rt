@@ -17,7 +17,7 @@ mod update;
 mod writing;
 
 pub use laws::{is_op, one_op};
-pub use ldap_updates::{
+pub use ldap_parts::{
     AddRequest, Change, ModifyDnRequest, ModifyOperation, ModifyRequest, MsgFault,
     PartialAttribute, ResultCode, WriteError,
 };

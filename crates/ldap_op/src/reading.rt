@@ -1,14 +1,14 @@
 //! Reads an update.
 
 ghost use Rattle.std.specs.Prelude.{◌≡◌, IfOk, IfErr, MatchResult};
-ghost use Rattle.ldap_updates.specs.ldap_ber.Faults.{IsPlainFault};
+ghost use Rattle.ldap_parts.specs.ldap_ber.Faults.{IsPlainFault};
 ghost use Rattle.ldap_op.specs.Values.{OpValue};
 ghost use Rattle.ldap_op.specs.View.{update_view};
 ghost use Rattle.ldap_op.specs.Grammar.{IsUpdate, IsOp};
 
 use crate::op::Op;
 use crate::update::Update;
-use ldap_updates::{MsgFault, add_of, delete_of, element, modify_dn_of, modify_of};
+use ldap_parts::{MsgFault, add_of, delete_of, element, modify_dn_of, modify_of};
 use std::alloc::Global;
 
 /// The update of this first octet whose content this is.

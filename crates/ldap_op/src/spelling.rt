@@ -2,17 +2,17 @@
 ghost use Rattle.std.specs.Prelude.{◌≡◌, ◌^◌, ◌<◌, IsTrue, IsFalse, IsNone, length, map, IfOk, IfSome};
 ghost use Rattle.std.specs.Str.{IsUtf8};
 ghost use Rattle.std.specs.List.{AllByRecursion};
-ghost use Rattle.ldap_updates.specs.ldap_parts.View.{attribute_view};
-ghost use Rattle.ldap_updates.specs.Grammar.{HasAValue};
-ghost use Rattle.ldap_updates.specs.View.{add_view, change_view, modify_view, modify_dn_view};
-ghost use Rattle.ldap_updates.specs.Written.{IsAddInRange, IsModifyInRange, IsModifyDnInRange};
+ghost use Rattle.ldap_parts.specs.View.{attribute_view};
+ghost use Rattle.ldap_parts.specs.UpdateGrammar.{HasAValue};
+ghost use Rattle.ldap_parts.specs.UpdateView.{add_view, change_view, modify_view, modify_dn_view};
+ghost use Rattle.ldap_parts.specs.UpdatesWritten.{IsAddInRange, IsModifyInRange, IsModifyDnInRange};
 ghost use Rattle.ldap_op.specs.View.{update_view};
 ghost use Rattle.ldap_op.specs.Written.{IsOpInRange, IsSpelled, HasNoSpelling, op_content};
 
 use crate::laws::is_op;
 use crate::update::Update;
 use crate::writing::write_update;
-use ldap_updates::{
+use ldap_parts::{
     AddRequest, Change, ModifyDnRequest, ModifyRequest, PartialAttribute, WriteError,
 };
 use std::alloc::{AllocError, Global};

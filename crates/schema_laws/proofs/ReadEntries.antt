@@ -8,7 +8,7 @@ use Rattle.dir_store.specs.ldap_op.Values.{OpValue, add, delete, modify, modify_
 use Rattle.dir_store.specs.entry_updates.Adding.{attributes_asked}
 use Rattle.dir_store.specs.entry_updates.Finishing.{renamed}
 use Rattle.dir_store.specs.ldap_op.ldap_parts.Values.{PartialAttributeValue}
-use Rattle.dir_store.specs.entry_updates.ldap_updates.Values.{AddRequestValue, ModifyDnRequestValue}
+use Rattle.dir_store.specs.entry_updates.ldap_parts.UpdateValues.{AddRequestValue, ModifyDnRequestValue}
 use Rattle.dir_store.specs.dir_entry.Entry.{AttributeModel}
 use Rattle.dir_store.specs.dir_tree.Directory.{NameKey, name_eq, begins, name_after}
 use Rattle.dir_store.specs.indexed_tree.Directory.{Directory, NamedEntry}

@@ -1,9 +1,8 @@
 -- Octets put one after the other.
-use Rattle.std.proofs.Common.{◌≡◌, ℕ, zero, suc, ◌<◌, ◌≤◌, List, [], ◌∷◌, ◌++◌, length, take, drop, slice_set, get_or, refl, sym, ap}
-use Rattle.std.proofs.Common.{subst, ◌∙◌, append_assoc, append-nil, arith, length-append, Result, Ok, Err}
+use Rattle.std.proofs.Common.{◌≡◌, ℕ, zero, suc, ◌<◌, ◌≤◌, List, [], ◌∷◌, ◌++◌, length, take, drop, slice_set, get_or, refl, sym, ap, subst, ◌∙◌, append_assoc, append-nil, arith, length-append, Result, Ok, Err}
 use Rattle.ldap_op.specs.Values.{OpValue, add, delete, modify, modify_dn, noop}
 use Rattle.ldap_op.specs.Written.{op_content, op_bytes}
-use Rattle.ldap_op.specs.ldap_updates.ldap_ber.Element.{element_bytes, length_octets}
+use Rattle.ldap_op.specs.ldap_parts.ldap_ber.Element.{element_bytes, length_octets}
 use Rattle.vr_state.specs.Words.{LogEntry}
 use Rattle.vr_wire.specs.declared.error.WireError.{WireError}
 use Rattle.vr_wire.specs.declared.error.WireError.TheVariants as error

@@ -1,5 +1,5 @@
 use Rattle.std.proofs.Common.{◌≡◌, [], drop, map}
-use Rattle.ldap_op.specs.ldap_updates.ldap_parts.View.{attribute_view}
+use Rattle.ldap_op.specs.ldap_parts.View.{attribute_view}
 use Rattle.entry_changes.specs.dir_entry.Entry.{attributes_of, IsKeyedBy}
 use Rattle.entry_updates.specs.Adding.{with_all_given}
 use Rattle.entry_updates.proofs.adding.entry_given.Given as goal

@@ -1,5 +1,5 @@
 use Rattle.std.proofs.Common.{◌≡◌, drop, map}
-use Rattle.ldap_op.specs.ldap_updates.View.{change_view}
+use Rattle.ldap_op.specs.ldap_parts.UpdateView.{change_view}
 use Rattle.entry_changes.specs.dir_entry.Entry.{attributes_of, IsKeyedBy}
 use Rattle.entry_updates.specs.Modifying.{all_changed}
 use Rattle.entry_updates.proofs.modifying.change_all.Given as goal

@@ -3,8 +3,8 @@ use Rattle.std.proofs.Common.{List}
 use Rattle.std.proofs.lemmas.Result.{IfErr-weaker}
 use Rattle.ldap_requests.specs.ldap_ber.Faults.{IsPlainFault}
 use Rattle.ldap_requests.proofs.ldap_ber.Same.{plain_weaker}
-use Rattle.ldap_updates.specs.ldap_parts.Values.{ControlValue}
-use Rattle.ldap_updates.specs.ldap_parts.Grammar.{AreControls}
+use Rattle.ldap_parts.specs.Values.{ControlValue}
+use Rattle.ldap_parts.specs.Grammar.{AreControls}
 use Rattle.ldap_msg.specs.View.{operation_view}
 use Rattle.ldap_msg.specs.Grammar.{IsIdFor}
 use Rattle.ldap_msg.proofs.decoding.controls_behind.Goals as goal

@@ -3,7 +3,7 @@ use Rattle.std.proofs.Common.{map, refl, arith}
 use Rattle.std.proofs.lemmas.Result.{err_from_is_err_and}
 use Rattle.ldap_requests.proofs.ldap_ber.Puts.{same_error}
 use Rattle.ldap_requests.proofs.ldap_ber.Measures.{same_measure}
-use Rattle.ldap_responses.specs.Written.{entry_content}
+use Rattle.ldap_parts.specs.ResponsesWritten.{entry_content}
 use Rattle.ldap_msg.proofs.Encoded.{whole, content_long, too_long}
 use Rattle.ldap_msg.proofs.encoding.put_entry_message.Goals as goal
 

@@ -1,7 +1,7 @@
 -- The goals of `read_update` that no tactic closes, each by one lemma over plain lists.
 use Rattle.std.proofs.lemmas.Result.{err_from_is_err_and}
-use Rattle.ldap_updates.proofs.ldap_ber.Same.{plain_weaker}
-use Rattle.ldap_updates.proofs.ldap_ber.RowLemmas.{some_left, none_left}
+use Rattle.ldap_parts.proofs.ldap_ber.Same.{plain_weaker}
+use Rattle.ldap_parts.proofs.ldap_ber.RowLemmas.{some_left, none_left}
 use Rattle.ldap_op.specs.View.{update_view}
 use Rattle.ldap_op.proofs.Ops.{op_one, op_whole, op_update, op_found, error_only}
 use Rattle.ldap_op.proofs.reading.read_update.Goals as goal

@@ -1,7 +1,7 @@
 use Rattle.std.proofs.Common.{ℕ, List, subst, sym, ◌∙◌}
 use Rattle.std.specs.Str.{IsUtf8}
-use Rattle.ldap_updates.specs.ldap_parts.View.{attribute_view}
-use Rattle.ldap_updates.specs.Grammar.{HasAValue}
+use Rattle.ldap_parts.specs.View.{attribute_view}
+use Rattle.ldap_parts.specs.UpdateGrammar.{HasAValue}
 use Rattle.ldap_op.proofs.Texts.{all_more_at, all_done, all_at, some_value, no_value}
 use Rattle.ldap_op.proofs.spelling.have_values.Goals as goal
 

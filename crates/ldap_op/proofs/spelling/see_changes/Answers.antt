@@ -1,6 +1,6 @@
 use Rattle.std.proofs.Common.{ℕ, List, subst}
 use Rattle.std.specs.Str.{IsUtf8}
-use Rattle.ldap_updates.specs.View.{change_view}
+use Rattle.ldap_parts.specs.UpdateView.{change_view}
 use Rattle.ldap_op.proofs.Texts.{all_more_at, all_done}
 use Rattle.ldap_op.proofs.spelling.see_changes.Goals as goal
 

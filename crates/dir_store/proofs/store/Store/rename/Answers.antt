@@ -1,7 +1,7 @@
 use Rattle.std.proofs.Common.{◌≡◌, ◌∙◌, ap, sym, List, Result, Ok, map}
 use Rattle.std.specs.Arc.{arc_value}
 use Rattle.indexed_tree.specs.ldap_dn.Names.{rdns}
-use Rattle.entry_updates.specs.ldap_updates.View.{modify_dn_view}
+use Rattle.entry_updates.specs.ldap_parts.UpdateView.{modify_dn_view}
 use Rattle.indexed_tree.specs.dir_entry.Entry.{attributes_of}
 use Rattle.indexed_tree.specs.dir_tree.Directory as tree
 use Rattle.indexed_tree.specs.dir_tree.Placed.{name_placed}

@@ -1,3 +1,0 @@
-pub mod Unique
-pub mod Exits
-pub mod Spelled
