@@ -35,7 +35,8 @@ pub trait Arrives<'a, R, H>: Sized {
     ) -> io::Result<Self>;
 }
 
-/// Hands a connection on once there is room for it; false where the door is closed or nobody takes connections any more.
+/// Hands a connection on once there is room for it; false where the door is closed or nobody takes connections any
+/// more.
 fn hand_on<R: Wait + Clock, V: Drop>(
     rt: &R,
     door: &Door,
@@ -59,8 +60,9 @@ fn hand_on<R: Wait + Clock, V: Drop>(
     false
 }
 
-/// Takes connections and numbers them from 1, until the door is closed. At most as many wait as the channel has room for; further ones wait
-/// with the operating system. A connection that can't be taken or made ready is left out, and a listener that fails is asked again.
+/// Takes connections and numbers them from 1, until the door is closed. At most as many wait as the channel has room
+/// for; further ones wait with the operating system. A connection that can't be taken or made ready is left out, and a
+/// listener that fails is asked again.
 pub fn accept_all<'a, R: Wait + Clock, H: HasDoor, V: Arrives<'a, R, H> + Drop>(
     rt: &'a R,
     alloc: Global,
@@ -87,8 +89,8 @@ pub fn accept_all<'a, R: Wait + Clock, H: HasDoor, V: Arrives<'a, R, H> + Drop>(
     }
 }
 
-/// Closes the door for good, and wakes whoever waits for a connection at this address. It takes a second at most: where no connection can be
-/// made because too many wait to be taken, whoever takes them is awake.
+/// Closes the door for good, and wakes whoever waits for a connection at this address. It takes a second at most: where
+/// no connection can be made because too many wait to be taken, whoever takes them is awake.
 pub fn close<R: Net<Stream = TcpStream>>(rt: &R, door: &Door, address: SocketAddr) {
     door.shut();
     let _is_awake = TcpStream::connect_timeout(rt, &address, Duration::from_secs(WAKE)).is_ok();

@@ -34,7 +34,8 @@ impl Limits {
         }
     }
 
-    /// How often whoever waits for a client looks at the clock: every 200 milliseconds, or as often as the limits want it.
+    /// How often whoever waits for a client looks at the clock: every 200 milliseconds, or as often as the limits want
+    /// it.
     pub fn turn(&self) -> Duration {
         let least = self.message.min(self.idle).max(Duration::from_millis(1));
         Duration::from_millis(TURN).min(least)

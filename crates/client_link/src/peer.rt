@@ -72,8 +72,8 @@ impl<'a, R: Wait + Clock> PeerConnection<'a, R> {
         self.address
     }
 
-    /// The first octets that have come, without taking them, as many as the buffer has room for; how many. Where none has come it fails with
-    /// `WouldBlock`, and where none will come there are 0.
+    /// The first octets that have come, without taking them, as many as the buffer has room for; how many. Where none
+    /// has come it fails with `WouldBlock`, and where none will come there are 0.
     pub fn peek(&self, octets: &mut [u8]) -> io::Result<usize> {
         self.reader.peek(octets)
     }

@@ -12,9 +12,10 @@ use std::time::{Clock, Duration, Instant};
 /// How long an unverified peer may take to show a greeting, in milliseconds.
 const PROBATION: u64 = 2_000;
 
-/// Reads a socket, and fails where the door is closed, where the other end is silent for too long inside a message, and where it sends no
-/// whole message for too long while another waits for the place. An unverified peer has 2 seconds from when it came; what it has sent is read before it is
-/// judged, and it gives its place up where nothing comes while another waits.
+/// Reads a socket, and fails where the door is closed, where the other end is silent for too long inside a message, and
+/// where it sends no whole message for too long while another waits for the place. An unverified peer has 2 seconds
+/// from when it came; what it has sent is read before it is judged, and it gives its place up where nothing comes while
+/// another waits.
 pub struct PieceReader<'a, R, H> {
     rt: &'a R,
     door: &'a Door,
@@ -70,7 +71,8 @@ impl<'a, R: Wait + Clock, H: Heading> PieceReader<'a, R, H> {
         })
     }
 
-    /// Tells the other end that it is heard, by one octet: it may be asking. What the stream doesn't take is lost, and so is the stream then.
+    /// Tells the other end that it is heard, by one octet: it may be asking. What the stream doesn't take is lost, and
+    /// so is the stream then.
     pub fn answer(&mut self) -> io::Result<()> {
         self.stream.write_all(&[0])
     }
@@ -109,8 +111,8 @@ impl<'a, R: Wait + Clock, H: Heading> PieceReader<'a, R, H> {
         self.unverified_since.is_some() && self.door.give_up(self.rt)
     }
 
-    /// The first octets that have come, without taking them, as many as the buffer has room for; how many. Where none has come it fails with
-    /// `WouldBlock`, and where none will come there are 0.
+    /// The first octets that have come, without taking them, as many as the buffer has room for; how many. Where none
+    /// has come it fails with `WouldBlock`, and where none will come there are 0.
     pub fn peek(&self, octets: &mut [u8]) -> io::Result<usize> {
         self.stream.set_nonblocking(true)?;
         let seen = self.stream.peek(octets);

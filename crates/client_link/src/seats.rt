@@ -44,7 +44,8 @@ impl Seats {
 
     /// Gives up a place, where a client waits for whom none is given up yet; whether it does.
     pub fn give_up(&mut self) -> bool
-        ensures yes { IsTrue result → (self.old.leaving < self.old.waiting) × (self.new.leaving ≡ self.old.leaving + 1) }
+        ensures yes { IsTrue result → (self.old.leaving < self.old.waiting)
+            × (self.new.leaving ≡ self.old.leaving + 1) }
         ensures no { IsFalse result → (self.old.waiting ≡ self.old.leaving) × (self.new.leaving ≡ self.old.leaving) }
         ensures waiting { self.new.waiting ≡ self.old.waiting }
     {

@@ -47,10 +47,11 @@ fn serve_each<R: Wait, C: Connection + Drop, D: Directory>(
     directory
 }
 
-/// Serves connections until the channel is closed and empty, at most as many at once as there are directories: each directory has a thread of
-/// its own, where one can be made. Each comes back after what the sessions that it served asked of it, one after the other, each from its
-/// beginning and as the session of a number of its own, and after nothing else. That each session has the number that came with its
-/// connection, and that each connection is served once, rests on the channel. Want of memory is the only error.
+/// Serves connections until the channel is closed and empty, at most as many at once as there are directories: each
+/// directory has a thread of its own, where one can be made. Each comes back after what the sessions that it served
+/// asked of it, one after the other, each from its beginning and as the session of a number of its own, and after
+/// nothing else. That each session has the number that came with its connection, and that each connection is served
+/// once, rests on the channel. Want of memory is the only error.
 pub fn serve_all<R: Threads + Wait + Sync, C: Connection + Send + Drop, D: Directory + Send + Drop>(
     rt: &R,
     alloc: Global,
@@ -60,7 +61,8 @@ pub fn serve_all<R: Threads + Wait + Sync, C: Connection + Send + Drop, D: Direc
 ) -> Result<Vec<D>, AllocError>
     ensures count { IfOk result (λ after. vec_len after ≡ vec_len directories) }
     ensures served { IfOk result (λ after. (k : ℕ) (d : D) → k < length directories.items
-        → HasServedSome D.allows (config_view config.now) (slice_index_or directories.items k d) (slice_index_or after.items k d)) }
+        → HasServedSome D.allows (config_view config.now) (slice_index_or directories.items k d)
+        (slice_index_or after.items k d)) }
 {
     let shared = &connections;
     let serves = move |directory: D| -> D

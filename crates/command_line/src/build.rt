@@ -9,7 +9,8 @@ pub enum Build {
     Unproved,
 }
 
-/// How this program was built. `tools/build --unproved` compiles a copy of the sources in which this line has the other value.
+/// How this program was built. `tools/build --unproved` compiles a copy of the sources in which this line has the other
+/// value.
 pub const BUILD: Build = Build::Proved;
 
 impl Build {

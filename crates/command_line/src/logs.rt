@@ -25,7 +25,8 @@ impl Logs {
         }
     }
 
-    /// The same, with what these words name, with a comma between them; none, where one of them names nothing that can be logged.
+    /// The same, with what these words name, with a comma between them; none, where one of them names nothing that can
+    /// be logged.
     fn with_all(self, words: &str) -> Option<Logs> {
         let mut logs = self;
         for word in words.split(',') {

@@ -38,7 +38,8 @@ fn last_part(host: &str) -> &str {
     }
 }
 
-/// Whether a text is the name of a host (RFC 1123 2.1), whose last part begins with a letter: else it may be an address that is spelled badly.
+/// Whether a text is the name of a host (RFC 1123 2.1), whose last part begins with a letter: else it may be an address
+/// that is spelled badly.
 fn is_host(text: &str) -> bool {
     text.len() <= LONGEST
         && text.chars().all(is_in_host)

@@ -312,8 +312,8 @@ fn job_in<'a>(alloc: Global, matches: &ArgMatches<'a>) -> Result<Job<'a>, Error>
     }
 }
 
-/// Reads the words of the command line, the program's name first. One that isn't UTF-8 comes with a NUL in it, and is refused anywhere but as the
-/// name of a file, which then can't be read.
+/// Reads the words of the command line, the program's name first. One that isn't UTF-8 comes with a NUL in it, and is
+/// refused anywhere but as the name of a file, which then can't be read.
 pub fn read_words<'a>(alloc: Global, words: &'a [String]) -> Result<Job<'a>, Error> {
     let matches = match_words(alloc, words)?;
     job_in(alloc, &matches)

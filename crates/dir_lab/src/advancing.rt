@@ -49,7 +49,8 @@ pub fn advance_all(
 ) -> Result<(), AllocError>
     requires count { length kept.old.items ≡ cluster.now.count }
     requires over { AreOver (arc_value lab.now.schema) lab.now.suffix kept.old.items }
-    ensures records { OnOk result (records_by kept.new.items ≡ all_caught_up (records_by kept.old.items) (world cluster.now)) }
+    ensures records { OnOk result (records_by kept.new.items ≡ all_caught_up (records_by kept.old.items)
+        (world cluster.now)) }
     ensures count { OnOk result (length kept.new.items ≡ cluster.now.count) }
     ensures over { OnOk result (AreOver (arc_value lab.now.schema) lab.now.suffix kept.new.items) }
 {

@@ -4,7 +4,8 @@ use state_machine::Op;
 use vr_state::words::Status;
 use vr_world::{ReplyBy, WorldEvent};
 
-/// One event of a schedule, or a question, which changes nothing. At an index that isn't below the number of replicas it is nothing.
+/// One event of a schedule, or a question, which changes nothing. At an index that isn't below the number of replicas
+/// it is nothing.
 #[derive(Drop)]
 pub enum LabEvent {
     /// Something happens to the replicas or their network.

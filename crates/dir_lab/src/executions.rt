@@ -13,7 +13,13 @@ use vr_state::replica::Replica;
 
 /// Nothing executed, over the lab's schema, indexes and root. Its only error is want of memory.
 pub fn nothing(alloc: Global, lab: &Lab) -> Result<Executed, AllocError>
-    ensures { IfOk result (λ e. e ≡ record { schema = arc_value lab.now.schema; suffix = lab.now.suffix; indexes = lab.now.indexes; records = [] }) }
+    ensures { IfOk result (λ e. e ≡ record {
+      schema = arc_value lab.now.schema;
+      suffix = lab.now.suffix;
+      indexes =
+          lab.now.indexes;
+      records = [];
+    }) }
 {
     let indexes = lab.indexes.copy(alloc)?;
     let suffix = lab.suffix.copy(alloc)?;
@@ -34,7 +40,8 @@ fn kept_or_nothing(alloc: Global, lab: &Lab, kept: Option<Executed>) -> Result<E
     }
 }
 
-/// What is kept of a replica goes on with what its log has next; of one that is down nothing is kept. Its only error is want of memory.
+/// What is kept of a replica goes on with what its log has next; of one that is down nothing is kept. Its only error is
+/// want of memory.
 pub fn catch_up(
     alloc: Global,
     lab: &Lab,
@@ -42,7 +49,8 @@ pub fn catch_up(
     replica: Option<&Replica<Op>>,
 ) -> Result<Option<Executed>, AllocError>
     requires { IsOver (arc_value lab.now.schema) lab.now.suffix kept }
-    ensures records { IfOk result (λ o. records_of o ≡ caught_up (records_of kept) (option_map (λ r. state r.now) replica.entry)) }
+    ensures records { IfOk result (λ o. records_of o ≡ caught_up (records_of kept) (option_map (λ r. state r.now)
+        replica.entry)) }
     ensures over { IfOk result (λ o. IsOver (arc_value lab.now.schema) lab.now.suffix o) }
 {
     match replica {

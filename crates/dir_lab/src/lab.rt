@@ -49,18 +49,23 @@ impl Lab {
         }
     }
 
-    /// Plays a schedule from the first world on: requests, deliveries of any message that was ever sent, suspicions, beats, crashes, recoveries,
-    /// replicas that go on from their journals, and searches between them. Its only error is want of memory, and then nothing is shown.
+    /// Plays a schedule from the first world on: requests, deliveries of any message that was ever sent, suspicions,
+    /// beats, crashes, recoveries, replicas that go on from their journals, and searches between them. Its only error
+    /// is want of memory, and then nothing is shown.
     pub fn run(&self, alloc: Global, events: Vec<LabEvent>) -> Result<Vec<LabReply>, AllocError>
-        // Each search of each schedule is answered from one beginning of the committed updates, no shorter than the number that was named; and with
-        // success by exactly the entries in scope whose filter value is True, each once, in order of number, with just the selected attributes.
-        ensures searches { IfOk result (λ shown. SearchesAreTold (arc_value self.now.schema) self.now.suffix self.now.count events.items (map shown_view shown.items)) }
+        // Each search of each schedule is answered from one beginning of the committed updates, no shorter than the
+        // number that was named; and with success by exactly the entries in scope whose filter value is True, each
+        // once, in order of number, with just the selected attributes.
+        ensures searches { IfOk result (λ shown. SearchesAreTold (arc_value self.now.schema) self.now.suffix
+            self.now.count events.items (map shown_view shown.items)) }
         // Each reply to an update has the client, the number and the code of the committed record at its place.
-        ensures replies { IfOk result (λ shown. RepliesAreOfCommitted (arc_value self.now.schema) self.now.suffix self.now.count events.items (map shown_view shown.items)) }
+        ensures replies { IfOk result (λ shown. RepliesAreOfCommitted (arc_value self.now.schema) self.now.suffix
+            self.now.count events.items (map shown_view shown.items)) }
         // What is committed is one list, which only grows.
         ensures committed { IfOk result (λ shown. IsSize self.now.count → CommittedIsOne self.now.count events.items) }
         // All that is shown, in order: as the definition of a schedule has it, whatever the index choice.
-        ensures shown { IfOk result (λ shown. IsSize self.now.count → map shown_view shown.items ≡ shown_by (arc_value self.now.schema) self.now.suffix self.now.count events.items) }
+        ensures shown { IfOk result (λ shown. IsSize self.now.count → map shown_view shown.items ≡
+            shown_by (arc_value self.now.schema) self.now.suffix self.now.count events.items) }
     {
         let mut run = begin(alloc, self)?;
         for event in events {

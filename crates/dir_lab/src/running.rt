@@ -43,8 +43,8 @@ pub fn begin(alloc: Global, lab: &Lab) -> Result<LabRun, AllocError>
     })
 }
 
-/// Something happens: the replicas execute what they have committed by then, and the replies that were given are shown. Its only error is want of
-/// memory.
+/// Something happens: the replicas execute what they have committed by then, and the replies that were given are shown.
+/// Its only error is want of memory.
 fn happen(
     alloc: Global,
     lab: &Lab,
@@ -53,7 +53,8 @@ fn happen(
 ) -> Result<(), AllocError>
     requires { IsRunning (arc_value lab.now.schema) lab.now.suffix lab.now.count run.old }
     ensures running { OnOk result (IsRunning (arc_value lab.now.schema) lab.now.suffix lab.now.count run.new) }
-    ensures next { OnOk result (IsNext (arc_value lab.now.schema) lab.now.suffix lab.now.count run.old run.new (kinds.Happens event)) }
+    ensures next { OnOk result (IsNext (arc_value lab.now.schema) lab.now.suffix lab.now.count run.old run.new
+        (kinds.Happens event)) }
 {
     let before = run.cluster.replies.len();
     run.cluster.happen(alloc, event)?;
@@ -74,7 +75,8 @@ fn ask_search(
 ) -> Result<(), AllocError>
     requires { IsRunning (arc_value lab.now.schema) lab.now.suffix lab.now.count run.old }
     ensures running { OnOk result (IsRunning (arc_value lab.now.schema) lab.now.suffix lab.now.count run.new) }
-    ensures next { OnOk result (IsNext (arc_value lab.now.schema) lab.now.suffix lab.now.count run.old run.new (kinds.Search index named request.now)) }
+    ensures next { OnOk result (IsNext (arc_value lab.now.schema) lab.now.suffix lab.now.count run.old run.new
+        (kinds.Search index named request.now)) }
 {
     if index < lab.count {
         let replica = run.cluster.replica(index);
@@ -95,7 +97,8 @@ fn ask_search(
 fn ask_state(lab: &Lab, run: &mut LabRun, index: u64) -> Result<(), AllocError>
     requires { IsRunning (arc_value lab.now.schema) lab.now.suffix lab.now.count run.old }
     ensures running { OnOk result (IsRunning (arc_value lab.now.schema) lab.now.suffix lab.now.count run.new) }
-    ensures next { OnOk result (IsNext (arc_value lab.now.schema) lab.now.suffix lab.now.count run.old run.new (kinds.State index)) }
+    ensures next { OnOk result (IsNext (arc_value lab.now.schema) lab.now.suffix lab.now.count run.old run.new
+        (kinds.State index)) }
 {
     if index < lab.count {
         let told = standing(index, run.cluster.replica(index));

@@ -38,7 +38,8 @@ fn answer_over(
     at: u64,
     request: &SearchRequest,
 ) -> Result<LabReply, AllocError>
-    ensures { IfOk result (λ t. shown_view t ≡ Answered at (answer (directory_at executed.now) (search_view request.now))) }
+    ensures { IfOk result (λ t. shown_view t ≡ Answered at (answer (directory_at executed.now)
+        (search_view request.now))) }
 {
     let answer = search(alloc, &executed.store().reading(), request)?;
     Ok(LabReply::Answered { at, answer })
@@ -53,7 +54,9 @@ fn answer_of(
     request: &SearchRequest,
 ) -> Result<LabReply, AllocError>
     requires { IsOver (arc_value lab.now.schema) lab.now.suffix kept.now }
-    ensures { IfOk result (λ t. shown_view t ≡ Answered at (answer (directory_of (arc_value lab.now.schema) lab.now.suffix (ops_of (records_of kept.now))) (search_view request.now))) }
+    ensures { IfOk result (λ t. shown_view t ≡
+        Answered at (answer (directory_of (arc_value lab.now.schema) lab.now.suffix (ops_of (records_of kept.now)))
+        (search_view request.now))) }
 {
     match kept {
         Some(executed) => answer_over(alloc, executed, at, request),
@@ -64,7 +67,8 @@ fn answer_of(
     }
 }
 
-/// A search at a replica, at no smaller an operation number than the one that is named. Its only error is want of memory.
+/// A search at a replica, at no smaller an operation number than the one that is named. Its only error is want of
+/// memory.
 pub fn search_at(
     alloc: Global,
     lab: &Lab,
@@ -74,7 +78,8 @@ pub fn search_at(
     request: &SearchRequest,
 ) -> Result<LabReply, AllocError>
     requires { IsOver (arc_value lab.now.schema) lab.now.suffix kept.now }
-    ensures { IfOk result (λ t. shown_view t ≡ found (arc_value lab.now.schema) lab.now.suffix (records_of kept.now) named (search_view request.now) (option_map (λ r. state r.now) replica.entry)) }
+    ensures { IfOk result (λ t. shown_view t ≡ found (arc_value lab.now.schema) lab.now.suffix (records_of kept.now)
+        named (search_view request.now) (option_map (λ r. state r.now) replica.entry)) }
 {
     match replica {
         None => Ok(LabReply::Unavailable),

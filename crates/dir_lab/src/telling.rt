@@ -40,7 +40,8 @@ fn code_in(executed: &Executed, op_number: u64) -> ResultCode
 /// The same of what is kept at a place.
 fn code_of(lab: &Lab, kept: Option<&Option<Executed>>, op_number: u64) -> ResultCode
     requires { IsOverAt (arc_value lab.now.schema) lab.now.suffix (option_map (λ o. o.now) kept) }
-    ensures { result ≡ code_at (replies_of (arc_value lab.now.schema) lab.now.suffix (ops_of (records_in (option_map (λ o. o.now) kept.entry)))) op_number }
+    ensures { result ≡ code_at (replies_of (arc_value lab.now.schema) lab.now.suffix
+        (ops_of (records_in (option_map (λ o. o.now) kept.entry)))) op_number }
 {
     match kept {
         Some(Some(executed)) => code_in(executed, op_number),
@@ -66,7 +67,8 @@ pub fn show_replies(
 ) -> Result<(), AllocError>
     requires { AreOver (arc_value lab.now.schema) lab.now.suffix kept.now }
     ensures { OnOk result (map shown_view shown.new.items
-        ≡ map shown_view shown.old.items ++ map (told (arc_value lab.now.schema) lab.now.suffix (records_by kept.now)) replies.now) }
+        ≡ map shown_view shown.old.items ++ map (told (arc_value lab.now.schema) lab.now.suffix (records_by kept.now))
+        replies.now) }
 {
     for by in replies {
         shown.push(told(lab, kept, *by))?;

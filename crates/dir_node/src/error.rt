@@ -22,7 +22,8 @@ pub enum NodeError {
     /// The journal is another cluster's; nothing was written.
     #[error("E23: the journal of another cluster")]
     ForeignJournal,
-    /// The journal is another replica's, or doesn't go with the pair; at a first start, it isn't empty. Nothing was written.
+    /// The journal is another replica's, or doesn't go with the pair; at a first start, it isn't empty. Nothing was
+    /// written.
     #[error("E26: stale journal")]
     StaleJournal,
     /// The pair or the journal could not be written at an earlier event.

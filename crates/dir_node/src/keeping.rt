@@ -12,7 +12,8 @@ use std::alloc::Global;
 use view_store::{Device, Pair, ViewStore, ViewStoreError};
 use vr_state::replica::Replica;
 
-/// Stores a pair where its view isn't that of the pair that is stored; all else of the two is the same. It takes no memory.
+/// Stores a pair where its view isn't that of the pair that is stored; all else of the two is the same. It takes no
+/// memory.
 pub fn keep_pair<D: Device>(
     views: &mut ViewStore<D>,
     former: u64,
@@ -31,7 +32,8 @@ pub fn keep_pair<D: Device>(
         → HasRisen (D.failure_count views.old.device) (D.failure_count views.new.device) }
     ensures no_pair { IsErrOf result ViewStoreError.NoPair → CannotStore pair.view (D.seen views.old.device) }
     ensures no_pair_same { IsErrOf result ViewStoreError.NoPair → views.new ≡ views.old }
-    ensures not_failed { OnErr result (IsErrOf result ViewStoreError.DeviceFailed ⊎ IsErrOf result ViewStoreError.NoPair) }
+    ensures not_failed { OnErr result (IsErrOf result ViewStoreError.DeviceFailed
+        ⊎ IsErrOf result ViewStoreError.NoPair) }
 {
     if pair.view == former {
         return Ok(());
@@ -53,7 +55,8 @@ pub fn execute_due(alloc: Global, executed: &mut Executed, replica: &Replica<Op>
     }
 }
 
-/// What follows the steps: the pair is stored where its view grew, then committed records are executed. Whether some of these are left for want of memory.
+/// What follows the steps: the pair is stored where its view grew, then committed records are executed. Whether some of
+/// these are left for want of memory.
 pub fn follow<D: Device>(
     alloc: Global,
     views: &mut ViewStore<D>,
@@ -75,7 +78,8 @@ pub fn follow<D: Device>(
         → HasRisen (D.failure_count views.old.device) (D.failure_count views.new.device) }
     ensures no_pair { IsErrOf result ViewStoreError.NoPair → CannotStore pair.view (D.seen views.old.device) }
     ensures no_pair_same { IsErrOf result ViewStoreError.NoPair → views.new ≡ views.old }
-    ensures not_failed { OnErr result (IsErrOf result ViewStoreError.DeviceFailed ⊎ IsErrOf result ViewStoreError.NoPair) }
+    ensures not_failed { OnErr result (IsErrOf result ViewStoreError.DeviceFailed
+        ⊎ IsErrOf result ViewStoreError.NoPair) }
     ensures executed { IfOk result (λ behind. CatchesUp behind executed.old.records
         (due_after (length executed.old.records) replica.now.commit_number replica.now.log) executed.new.records) }
     ensures nothing { OnErr result (executed.new ≡ executed.old) }

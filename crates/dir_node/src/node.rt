@@ -84,7 +84,8 @@ impl<D: Device, J: JournalDevice> Model for Node<D, J> {
     } };
 
     ghost invariant = { λ n. n.is_halted ≡ false
-        → IsRunning D.seen D.may_leave J.seen J.may_leave n.views n.journal n.replica.index n.replica.count (state n.replica) n.restarts };
+        → IsRunning D.seen D.may_leave J.seen J.may_leave n.views n.journal n.replica.index n.replica.count
+        (state n.replica) n.restarts };
 }
 
 impl<D: Device, J: JournalDevice> Node<D, J> {
@@ -97,7 +98,8 @@ impl<D: Device, J: JournalDevice> Node<D, J> {
         restarts: u64,
         catch_up: u64,
     ) -> Node<D, J>
-        requires { IsRunning D.seen D.may_leave J.seen J.may_leave views journal replica.index replica.count (state replica) restarts }
+        requires { IsRunning D.seen D.may_leave J.seen J.may_leave views journal replica.index replica.count
+            (state replica) restarts }
         ensures { result ≡ record {
           index = replica.index;
           count = replica.count;
@@ -122,15 +124,18 @@ impl<D: Device, J: JournalDevice> Node<D, J> {
         }
     }
 
-    /// Handles one event: the replica makes its step, its journal, where it keeps one, is settled, its view is stored where it grew, and what is committed is
-    /// executed. Only then is anything given out. Where the journal or the pair can't be written, nothing is given out, and the node has stopped for good.
+    /// Handles one event: the replica makes its step, its journal, where it keeps one, is settled, its view is stored
+    /// where it grew, and what is committed is executed. Only then is anything given out. Where the journal or the pair
+    /// can't be written, nothing is given out, and the node has stopped for good.
     pub fn handle(&mut self, alloc: Global, event: Event<Op>) -> Result<Handled, NodeError>
         // The replica makes its step, and the outputs are the step's.
-        ensures step { IfOk result (λ h. given self.new.replica h.outputs ≡ step_of self.old.count self.old.index self.old.replica event) }
+        ensures step { IfOk result (λ h. given self.new.replica h.outputs ≡ step_of self.old.count self.old.index
+            self.old.replica event) }
 
         // The committed records that come next are executed, all of them unless it is behind.
         ensures executed { IfOk result (λ h. CatchesUp h.behind self.old.executed.records
-            (due_after (length self.old.executed.records) self.new.replica.commit_number self.new.replica.log) self.new.executed.records) }
+            (due_after (length self.old.executed.records) self.new.replica.commit_number self.new.replica.log)
+            self.new.executed.records) }
 
         // Every crash from then on leaves the replica's pair, and a journal that tells the replica.
         ensures kept { OnOk result (KeepsPair D.may_leave self.new) }
@@ -146,28 +151,39 @@ impl<D: Device, J: JournalDevice> Node<D, J> {
         ensures halted { IsErrOf result NodeError.Halted ↔ (self.old.is_halted ≡ true) }
         ensures halted_same { IsErrOf result NodeError.Halted → self.new ≡ self.old }
 
-        // It stops where the pair can't be stored, executes nothing then, and gives nothing out: E21 only where the device has failed, E22 only where
-        // the view is past the greatest number or the sequence of pairs is at its end, and then nothing is written. There is no other cause.
-        ensures stops { (e : ViewStoreError) → IsErrOf result (NodeError.Store e) → (self.new.is_halted ≡ true) × (self.new.executed ≡ self.old.executed) }
-        // The journal, where there is one, is settled then, and tells the replica after the step; the device gives the pair from before the step or from after it.
+        // It stops where the pair can't be stored, executes nothing then, and gives nothing out: E21 only where the
+        // device has failed, E22 only where the view is past the greatest number or the sequence of pairs is at its
+        // end, and then nothing is written. There is no other cause.
+        ensures stops { (e : ViewStoreError) → IsErrOf result (NodeError.Store e) → (self.new.is_halted ≡ true)
+            × (self.new.executed ≡ self.old.executed) }
+        // The journal, where there is one, is settled then, and tells the replica after the step; the device gives the
+        // pair from before the step or from after it.
         ensures store_late { (e : ViewStoreError) → IsErrOf result (NodeError.Store e)
-            → (self.new.replica ≡ (step_of self.old.count self.old.index self.old.replica event).state) × KeepsLog J.may_leave self.new }
-        ensures stopped { IsErrOf result (NodeError.Store ViewStoreError.DeviceFailed) → IsWellPlaced (D.seen self.old.device)
+            → (self.new.replica ≡ (step_of self.old.count self.old.index self.old.replica event).state)
+            × KeepsLog J.may_leave self.new }
+        ensures stopped { IsErrOf result (NodeError.Store ViewStoreError.DeviceFailed) →
+            IsWellPlaced (D.seen self.old.device)
             → IsFormerOrNew self.old.cluster (own (pair_of self.old))
-            (record (pair_of self.old) { view = (step_of self.old.count self.old.index self.old.replica event).state.view_number }) (D.seen self.new.device) }
+            (record (pair_of self.old) {
+              view = (step_of self.old.count self.old.index self.old.replica
+                  event).state.view_number;
+            }) (D.seen self.new.device) }
         ensures device_failed { IsErrOf result (NodeError.Store ViewStoreError.DeviceFailed)
             → HasRisen (D.failure_count self.old.device) (D.failure_count self.new.device) }
         ensures no_pair { IsErrOf result (NodeError.Store ViewStoreError.NoPair)
-            → CannotStore (step_of self.old.count self.old.index self.old.replica event).state.view_number (D.seen self.old.device) }
-        ensures no_pair_same { IsErrOf result (NodeError.Store ViewStoreError.NoPair) → self.new.device ≡ self.old.device }
+            → CannotStore (step_of self.old.count self.old.index self.old.replica event).state.view_number
+            (D.seen self.old.device) }
+        ensures no_pair_same { IsErrOf result (NodeError.Store ViewStoreError.NoPair) → self.new.device ≡
+            self.old.device }
         ensures foreign_cluster { IsErrOf result (NodeError.Store ViewStoreError.ForeignCluster) → ⊥ }
         ensures keeps_journal { IsErrOf result (NodeError.Store ViewStoreError.KeepsJournal) → ⊥ }
         ensures not_failed { IsErrOf result (NodeError.Store ViewStoreError.Failed) → ⊥ }
 
-        // It stops too where its journal can't be written, and then the pair's device isn't called: E21 only where the journal's device has failed. Without a
-        // journal that doesn't happen.
+        // It stops too where its journal can't be written, and then the pair's device isn't called: E21 only where the
+        // journal's device has failed. Without a journal that doesn't happen.
         ensures log_stops { (e : NoteError) → IsErrOf result (NodeError.Journal e)
-            → (self.new.is_halted ≡ true) × (self.new.executed ≡ self.old.executed) × (self.new.device ≡ self.old.device) }
+            → (self.new.is_halted ≡ true) × (self.new.executed ≡ self.old.executed)
+            × (self.new.device ≡ self.old.device) }
         // The replica is as it is before the event or after it.
         ensures log_late { (e : NoteError) → IsErrOf result (NodeError.Journal e)
             → MakesSome self.old.count self.old.index self.old.replica (event ∷ []) self.new.replica }
@@ -179,11 +195,15 @@ impl<D: Device, J: JournalDevice> Node<D, J> {
         ensures foreign_journal { IsErrOf result NodeError.ForeignJournal → ⊥ }
         ensures stale_journal { IsErrOf result NodeError.StaleJournal → ⊥ }
 
-        // A crash at any moment of the call leaves the pair from before the step or from after it, and a journal that tells the replica from before it or
-        // from after it.
+        // A crash at any moment of the call leaves the pair from before the step or from after it, and a journal that
+        // tells the replica from before it or from after it.
         ensures any_moment { self.old.is_halted ≡ false → IsWellPlaced (D.seen self.old.device)
-            → LeavesOnly D.moment D.left_since self.old.device self.new.device (IsFormerOrNew self.old.cluster (own (pair_of self.old))
-            (record (pair_of self.old) { view = (step_of self.old.count self.old.index self.old.replica event).state.view_number })) }
+            → LeavesOnly D.moment D.left_since self.old.device self.new.device (IsFormerOrNew self.old.cluster
+            (own (pair_of self.old))
+            (record (pair_of self.old) {
+              view = (step_of self.old.count self.old.index self.old.replica
+                  event).state.view_number;
+            })) }
         ensures any_log_moment { self.old.is_halted ≡ false
             → LeavesOnlyIn J.moment J.left_since (device_in self.old.journal) (device_in self.new.journal)
             (TellsSome (head self.old) self.old.count self.old.index self.old.replica (event ∷ [])) }
@@ -225,20 +245,23 @@ impl<D: Device, J: JournalDevice> Node<D, J> {
         }
     }
 
-    /// Handles a batch of events, one after another: the replica makes their steps, its journal, where it keeps one, is settled by one write and one sync, its
-    /// view is stored where it grew, and what is committed is executed. Only then is anything given out. Where the journal or the pair can't be written,
-    /// nothing is given out, and the node has stopped for good.
+    /// Handles a batch of events, one after another: the replica makes their steps, its journal, where it keeps one, is
+    /// settled by one write and one sync, its view is stored where it grew, and what is committed is executed. Only
+    /// then is anything given out. Where the journal or the pair can't be written, nothing is given out, and the node
+    /// has stopped for good.
     pub fn handle_all(
         &mut self,
         alloc: Global,
         events: Vec<Event<Op>>,
     ) -> Result<AllHandled, NodeError>
         // Each event makes its step, and its outputs are the step's, or it is left out for want of memory.
-        ensures steps { IfOk result (λ h. MakesSteps self.old.count self.old.index self.old.replica events.items h.outputs.items self.new.replica) }
+        ensures steps { IfOk result (λ h. MakesSteps self.old.count self.old.index self.old.replica events.items
+            h.outputs.items self.new.replica) }
 
         // The committed records that come next are executed, all of them unless it is behind.
         ensures executed { IfOk result (λ h. CatchesUp h.behind self.old.executed.records
-            (due_after (length self.old.executed.records) self.new.replica.commit_number self.new.replica.log) self.new.executed.records) }
+            (due_after (length self.old.executed.records) self.new.replica.commit_number self.new.replica.log)
+            self.new.executed.records) }
 
         // Every crash from then on leaves the replica's pair, and a journal that tells the replica.
         ensures kept { OnOk result (KeepsPair D.may_leave self.new) }
@@ -254,28 +277,36 @@ impl<D: Device, J: JournalDevice> Node<D, J> {
         ensures halted { IsErrOf result NodeError.Halted ↔ (self.old.is_halted ≡ true) }
         ensures halted_same { IsErrOf result NodeError.Halted → self.new ≡ self.old }
 
-        // It stops where the pair can't be stored, executes nothing then, and gives nothing out: E21 only where the device has failed, E22 only where
-        // the view is past the greatest number or the sequence of pairs is at its end, and then nothing is written. There is no other cause.
-        ensures stops { (e : ViewStoreError) → IsErrOf result (NodeError.Store e) → (self.new.is_halted ≡ true) × (self.new.executed ≡ self.old.executed) }
-        // The journal, where there is one, is settled then, and tells the replica after the steps; the device gives the pair from before them or from after them.
+        // It stops where the pair can't be stored, executes nothing then, and gives nothing out: E21 only where the
+        // device has failed, E22 only where the view is past the greatest number or the sequence of pairs is at its
+        // end, and then nothing is written. There is no other cause.
+        ensures stops { (e : ViewStoreError) → IsErrOf result (NodeError.Store e) → (self.new.is_halted ≡ true)
+            × (self.new.executed ≡ self.old.executed) }
+        // The journal, where there is one, is settled then, and tells the replica after the steps; the device gives the
+        // pair from before them or from after them.
         ensures store_late { (e : ViewStoreError) → IsErrOf result (NodeError.Store e)
-            → ((xs : List (Result (Outputs OpValue) AllocError)) × MakesSteps self.old.count self.old.index self.old.replica events.items xs self.new.replica)
+            → ((xs : List (Result (Outputs OpValue) AllocError)) × MakesSteps self.old.count self.old.index
+            self.old.replica events.items xs self.new.replica)
             × KeepsLog J.may_leave self.new }
-        ensures stopped { IsErrOf result (NodeError.Store ViewStoreError.DeviceFailed) → IsWellPlaced (D.seen self.old.device)
-            → IsFormerOrNew self.old.cluster (own (pair_of self.old)) (record (pair_of self.old) { view = self.new.replica.view_number }) (D.seen self.new.device) }
+        ensures stopped { IsErrOf result (NodeError.Store ViewStoreError.DeviceFailed) →
+            IsWellPlaced (D.seen self.old.device)
+            → IsFormerOrNew self.old.cluster (own (pair_of self.old))
+            (record (pair_of self.old) { view = self.new.replica.view_number }) (D.seen self.new.device) }
         ensures device_failed { IsErrOf result (NodeError.Store ViewStoreError.DeviceFailed)
             → HasRisen (D.failure_count self.old.device) (D.failure_count self.new.device) }
         ensures no_pair { IsErrOf result (NodeError.Store ViewStoreError.NoPair)
             → CannotStore self.new.replica.view_number (D.seen self.old.device) }
-        ensures no_pair_same { IsErrOf result (NodeError.Store ViewStoreError.NoPair) → self.new.device ≡ self.old.device }
+        ensures no_pair_same { IsErrOf result (NodeError.Store ViewStoreError.NoPair) → self.new.device ≡
+            self.old.device }
         ensures foreign_cluster { IsErrOf result (NodeError.Store ViewStoreError.ForeignCluster) → ⊥ }
         ensures keeps_journal { IsErrOf result (NodeError.Store ViewStoreError.KeepsJournal) → ⊥ }
         ensures not_failed { IsErrOf result (NodeError.Store ViewStoreError.Failed) → ⊥ }
 
-        // It stops too where its journal can't be written, and then the pair's device isn't called: E21 only where the journal's device has failed. Without a
-        // journal that doesn't happen.
+        // It stops too where its journal can't be written, and then the pair's device isn't called: E21 only where the
+        // journal's device has failed. Without a journal that doesn't happen.
         ensures log_stops { (e : NoteError) → IsErrOf result (NodeError.Journal e)
-            → (self.new.is_halted ≡ true) × (self.new.executed ≡ self.old.executed) × (self.new.device ≡ self.old.device) }
+            → (self.new.is_halted ≡ true) × (self.new.executed ≡ self.old.executed)
+            × (self.new.device ≡ self.old.device) }
         // The replica is as it is after some first of the events, each of which makes its step or is left out.
         ensures log_late { (e : NoteError) → IsErrOf result (NodeError.Journal e)
             → MakesSome self.old.count self.old.index self.old.replica events.items self.new.replica }
@@ -287,10 +318,11 @@ impl<D: Device, J: JournalDevice> Node<D, J> {
         ensures foreign_journal { IsErrOf result NodeError.ForeignJournal → ⊥ }
         ensures stale_journal { IsErrOf result NodeError.StaleJournal → ⊥ }
 
-        // A crash at any moment of the call leaves the pair from before the batch or from after it, and a journal that tells the replica after some first of
-        // the events that were taken.
+        // A crash at any moment of the call leaves the pair from before the batch or from after it, and a journal that
+        // tells the replica after some first of the events that were taken.
         ensures any_moment { self.old.is_halted ≡ false → IsWellPlaced (D.seen self.old.device)
-            → LeavesOnly D.moment D.left_since self.old.device self.new.device (IsFormerOrNew self.old.cluster (own (pair_of self.old))
+            → LeavesOnly D.moment D.left_since self.old.device self.new.device (IsFormerOrNew self.old.cluster
+            (own (pair_of self.old))
             (record (pair_of self.old) { view = self.new.replica.view_number })) }
         ensures any_log_moment { self.old.is_halted ≡ false
             → LeavesOnlyIn J.moment J.left_since (device_in self.old.journal) (device_in self.new.journal)
@@ -333,19 +365,20 @@ impl<D: Device, J: JournalDevice> Node<D, J> {
         }
     }
 
-    /// Executes the committed records that come next, before any event: after a start over a journal, all that it says is committed. Whether some of these
-    /// are left for want of memory; they are executed after the next event.
+    /// Executes the committed records that come next, before any event: after a start over a journal, all that it says
+    /// is committed. Whether some of these are left for want of memory; they are executed after the next event.
     pub fn execute_due(&mut self, alloc: Global) -> bool
         ensures executed { CatchesUp result self.old.executed.records
-            (due_after (length self.old.executed.records) self.old.replica.commit_number self.old.replica.log) self.new.executed.records }
+            (due_after (length self.old.executed.records) self.old.replica.commit_number self.old.replica.log)
+            self.new.executed.records }
         ensures same { IsSameNode self.old self.new }
         ensures nothing_else { self.new ≡ record self.old { executed = self.new.executed } }
     {
         execute_due(alloc, &mut self.executed, &self.replica)
     }
 
-    /// What became of a client's request. The client's latest record is found in the client table, and its reply by its place: no log is walked, and no
-    /// memory taken. A node that has stopped has lost what isn't executed.
+    /// What became of a client's request. The client's latest record is found in the client table, and its reply by its
+    /// place: no log is walked, and no memory taken. A node that has stopped has lost what isn't executed.
     pub fn outcome(&self, client: Client, number: u64) -> Outcome<'_>
         ensures { outcome_view result ≡ outcome_of self.now client number }
     {
@@ -365,7 +398,8 @@ impl<D: Device, J: JournalDevice> Node<D, J> {
 
     /// What became of the record at this place.
     fn outcome_at(&self, op_number: u64) -> Outcome<'_>
-        ensures { outcome_view result ≡ outcome_at self.now op_number (slice_get (replies_at self.now.executed) (op_number - 1)) }
+        ensures { outcome_view result ≡ outcome_at self.now op_number (slice_get (replies_at self.now.executed)
+            (op_number - 1)) }
     {
         match self.executed.reply(op_number.saturating_sub(1) as usize) {
             Some(reply) => Outcome::Done {
@@ -502,8 +536,8 @@ impl<D: Device, J: JournalDevice> Node<D, J> {
         self.replica.count
     }
 
-    /// Whether it has committed as much as its log had when it went on from its journal, or all of a log that replaced that one. It has where it started
-    /// in another way.
+    /// Whether it has committed as much as its log had when it went on from its journal, or all of a log that replaced
+    /// that one. It has where it started in another way.
     pub fn is_caught_up(&self) -> bool
         ensures { result ≡ (self.now.catch_up == 0) }
     {

@@ -55,13 +55,16 @@ fn first_replica<J: JournalDevice>(
     ensures index { IfOk result (λ r. r.index ≡ owner.index) }
     ensures count { IfOk result (λ r. r.count ≡ owner.count) }
     ensures held { OnOk result (IsHeldIn J.seen J.may_leave journal.new) }
-    ensures told { OnOk result (IsToldIn J.seen journal.new (head_of owner.cluster owner.index owner.count 1) (first owner.count)) }
+    ensures told { OnOk result (IsToldIn J.seen journal.new (head_of owner.cluster owner.index owner.count 1)
+        (first owner.count)) }
     ensures journaled { is_some journal.new ≡ is_some journal.old }
     ensures any_moment { LeavesOnlyIn J.moment J.left_since (device_in journal.old) (device_in journal.new)
         (FirstLeaves J.seen J.may_leave (device_in journal.old) (first_notes owner)) }
     ensures early { IfErr result (λ e. IsEarly e
-        → LeavesOnlyIn J.moment J.left_since (device_in journal.old) (device_in journal.new) (RefusedLeaves J.seen J.may_leave (device_in journal.old))) }
-    ensures early_same { IfErr result (λ e. IsEarly e → IsUnwritten J.seen (device_in journal.old) (device_in journal.new)) }
+        → LeavesOnlyIn J.moment J.left_since (device_in journal.old) (device_in journal.new)
+        (RefusedLeaves J.seen J.may_leave (device_in journal.old))) }
+    ensures early_same { IfErr result (λ e. IsEarly e → IsUnwritten J.seen (device_in journal.old)
+        (device_in journal.new)) }
     ensures stale { IsErrOf result NodeError.StaleJournal → IsNotEmpty J.seen (device_in journal.old) }
     ensures failed { IsErrOf result (NodeError.Journal NoteError.DeviceFailed)
         → HasRisenIn J.failure_count (device_in journal.old) (device_in journal.new) }
@@ -94,12 +97,16 @@ fn reopen_alone<D: Device, J: JournalDevice>(
     ensures kept { IfOk result (λ made. KeepsPair D.may_leave made.0) }
     ensures placed { IfOk result (λ made. IsWellPlaced (D.seen device) → IsWellPlaced (D.seen made.0.device)) }
     ensures any_moment { IfOk result (λ made. IsWellPlaced (D.seen device)
-        → LeavesOnly D.moment D.left_since device made.0.device (StartLeaves D.seen D.may_leave config.cluster device)) }
+        → LeavesOnly D.moment D.left_since device made.0.device (StartLeaves D.seen D.may_leave config.cluster
+        device)) }
     ensures refused_moment { IfErr result (λ r. IsWellPlaced (D.seen device)
         → LeavesOnly D.moment D.left_since device r.device (StartLeaves D.seen D.may_leave config.cluster device)) }
-    ensures no_pair { IfErr result (λ r. r.error ≡ error.Store view_error.NoPair → CannotStart config.cluster (D.seen device)) }
-    ensures foreign_cluster { IfErr result (λ r. r.error ≡ error.Store view_error.ForeignCluster → found config.cluster (D.seen device) ≡ foreign) }
-    ensures keeps_journal { IfErr result (λ r. r.error ≡ error.Store view_error.KeepsJournal → IsJournaled (found config.cluster (D.seen device))) }
+    ensures no_pair { IfErr result (λ r. r.error ≡ error.Store view_error.NoPair → CannotStart config.cluster
+        (D.seen device)) }
+    ensures foreign_cluster { IfErr result (λ r. r.error ≡ error.Store view_error.ForeignCluster →
+        found config.cluster (D.seen device) ≡ foreign) }
+    ensures keeps_journal { IfErr result (λ r. r.error ≡ error.Store view_error.KeepsJournal →
+        IsJournaled (found config.cluster (D.seen device))) }
     ensures device_failed { IfErr result (λ r. r.error ≡ error.Store view_error.DeviceFailed
         → HasRisen (D.failure_count device) (D.failure_count r.device)) }
     ensures same { IfErr result (λ r. r.error ≢ error.Store view_error.DeviceFailed → D.seen r.device ≡ D.seen device) }
@@ -136,35 +143,46 @@ fn reopen_over<D: Device, J: JournalDevice>(
     config: NodeConfig,
 ) -> Result<(Node<D, J>, Outputs<Op>), Refused<D, J>>
     requires within { config.index < config.count }
-    ensures restarted { IfOk result (λ made. IsRestarted config (found config.cluster (D.seen device)) (recorded (J.seen journal)) made.0 made.1) }
+    ensures restarted { IfOk result (λ made. IsRestarted config (found config.cluster (D.seen device))
+        (recorded (J.seen journal)) made.0 made.1) }
     ensures journaled { IfOk result (λ made. is_some made.0.journal ≡ true) }
     ensures kept { IfOk result (λ made. KeepsPair D.may_leave made.0) }
     ensures placed { IfOk result (λ made. IsWellPlaced (D.seen device) → IsWellPlaced (D.seen made.0.device)) }
     ensures logged { IfOk result (λ made. KeepsLog J.may_leave made.0) }
     ensures any_moment { IfOk result (λ made. IsWellPlaced (D.seen device)
-        → LeavesOnly D.moment D.left_since device made.0.device (RestartLeaves D.seen D.may_leave (owner_of config) device (recorded (J.seen journal)))) }
+        → LeavesOnly D.moment D.left_since device made.0.device (RestartLeaves D.seen D.may_leave (owner_of config)
+        device (recorded (J.seen journal)))) }
     ensures refused_moment { IfErr result (λ r. IsWellPlaced (D.seen device)
-        → LeavesOnly D.moment D.left_since device r.device (RestartLeaves D.seen D.may_leave (owner_of config) device (recorded (J.seen journal)))) }
-    ensures log_moment { IfOk result (λ made. LeavesOnlyIn J.moment J.left_since (Some journal) (device_in made.0.journal)
+        → LeavesOnly D.moment D.left_since device r.device (RestartLeaves D.seen D.may_leave (owner_of config) device
+        (recorded (J.seen journal)))) }
+    ensures log_moment { IfOk result (λ made. LeavesOnlyIn J.moment J.left_since (Some journal)
+        (device_in made.0.journal)
         (RestartNotes J.seen J.may_leave (owner_of config) (found config.cluster (D.seen device)) journal)) }
     ensures refused_log_moment { IfErr result (λ r. LeavesOnlyIn J.moment J.left_since (Some journal) r.journal
         (RestartNotes J.seen J.may_leave (owner_of config) (found config.cluster (D.seen device)) journal)) }
     ensures early { IfErr result (λ r. IsEarly r.error
-        → LeavesOnlyIn J.moment J.left_since (Some journal) r.journal (RefusedLeaves J.seen J.may_leave (Some journal))) }
+        → LeavesOnlyIn J.moment J.left_since (Some journal) r.journal (RefusedLeaves J.seen J.may_leave
+        (Some journal))) }
     ensures early_same { IfErr result (λ r. IsEarly r.error → IsUnwritten J.seen (Some journal) r.journal) }
-    ensures no_pair { IfErr result (λ r. r.error ≡ error.Store view_error.NoPair → CannotRestart config.cluster (D.seen device)) }
-    ensures foreign_cluster { IfErr result (λ r. r.error ≡ error.Store view_error.ForeignCluster → found config.cluster (D.seen device) ≡ foreign) }
+    ensures no_pair { IfErr result (λ r. r.error ≡ error.Store view_error.NoPair → CannotRestart config.cluster
+        (D.seen device)) }
+    ensures foreign_cluster { IfErr result (λ r. r.error ≡ error.Store view_error.ForeignCluster →
+        found config.cluster (D.seen device) ≡ foreign) }
     ensures keeps_journal { IfErr result (λ r. r.error ≢ error.Store view_error.KeepsJournal) }
     ensures device_failed { IfErr result (λ r. r.error ≡ error.Store view_error.DeviceFailed
         → HasRisen (D.failure_count device) (D.failure_count r.device)) }
     ensures not_failed { IfErr result (λ r. r.error ≢ error.Store view_error.Failed) }
     ensures not_halted { IfErr result (λ r. r.error ≢ error.Halted) }
-    ensures foreign_journal { IfErr result (λ r. r.error ≡ error.ForeignJournal → IsForeign (owner_of config) (recorded (J.seen journal))) }
+    ensures foreign_journal { IfErr result (λ r. r.error ≡ error.ForeignJournal → IsForeign (owner_of config)
+        (recorded (J.seen journal))) }
     ensures stale_journal { IfErr result (λ r. r.error ≡ error.StaleJournal
         → IsStale (owner_of config) (found config.cluster (D.seen device)) (recorded (J.seen journal))) }
-    ensures another_version { IfErr result (λ r. r.error ≡ error.Journal note_error.AnotherVersion → HasAnotherVersion (recorded (J.seen journal))) }
-    ensures damaged { IfErr result (λ r. r.error ≡ error.Journal note_error.Damaged → HasDamage (recorded (J.seen journal))) }
-    ensures log_failed { IfErr result (λ r. r.error ≡ error.Journal note_error.DeviceFailed → HasRisenIn J.failure_count (Some journal) r.journal) }
+    ensures another_version { IfErr result (λ r. r.error ≡ error.Journal note_error.AnotherVersion →
+        HasAnotherVersion (recorded (J.seen journal))) }
+    ensures damaged { IfErr result (λ r. r.error ≡ error.Journal note_error.Damaged →
+        HasDamage (recorded (J.seen journal))) }
+    ensures log_failed { IfErr result (λ r. r.error ≡ error.Journal note_error.DeviceFailed →
+        HasRisenIn J.failure_count (Some journal) r.journal) }
     ensures same { IfErr result (λ r. r.error ≢ error.Store view_error.DeviceFailed → D.seen r.device ≡ D.seen device) }
 {
     let NodeConfig {
@@ -214,8 +232,9 @@ fn reopen_over<D: Device, J: JournalDevice>(
 }
 
 impl<D: Device, J: JournalDevice> Node<D, J> {
-    /// The node of a replica's first start, once in its life: its device holds view 0 and one restart, its journal, where it keeps one, tells that, and it is
-    /// normal in view 0. What takes memory comes first: a start that is refused memory has written nothing, and doesn't call the pair's device.
+    /// The node of a replica's first start, once in its life: its device holds view 0 and one restart, its journal,
+    /// where it keeps one, tells that, and it is normal in view 0. What takes memory comes first: a start that is
+    /// refused memory has written nothing, and doesn't call the pair's device.
     pub fn fresh(
         alloc: Global,
         device: D,
@@ -228,13 +247,14 @@ impl<D: Device, J: JournalDevice> Node<D, J> {
         ensures journaled { IfOk result (λ made. is_some made.0.journal ≡ is_some journal) }
         ensures caught_up { IfOk result (λ made. made.0.catch_up ≡ 0) }
 
-        // Every crash from then on leaves view 0 and one restart, as stores leave them. A stop inside the call promises nothing of the pair.
+        // Every crash from then on leaves view 0 and one restart, as stores leave them. A stop inside the call promises
+        // nothing of the pair.
         ensures kept { IfOk result (λ made. KeepsPair D.may_leave made.0) }
         ensures placed { IfOk result (λ made. IsWellPlaced (D.seen made.0.device)) }
         ensures left { IfOk result (λ made. (c : List ℕ) → D.may_leave made.0.device c → IsWellPlaced c) }
 
-        // So does every crash leave a journal that tells the node; at any moment of the call, one that is read as before, or as some first of what the start
-        // notes.
+        // So does every crash leave a journal that tells the node; at any moment of the call, one that is read as
+        // before, or as some first of what the start notes.
         ensures logged { IfOk result (λ made. KeepsLog J.may_leave made.0) }
         ensures log_moment { IfOk result (λ made. LeavesOnlyIn J.moment J.left_since journal (device_in made.0.journal)
             (FirstLeaves J.seen J.may_leave journal (first_notes (owner_of config)))) }
@@ -245,18 +265,21 @@ impl<D: Device, J: JournalDevice> Node<D, J> {
         // Nothing is written, cleared or grown before every other check of the start has passed.
         ensures early_same { IfErr result (λ r. IsEarly r.error → IsUnwritten J.seen journal r.journal) }
 
-        // Want of memory comes before the pair's device is called, E22 where it is longer than 64 octets, E21 where it failed; E26 where the journal isn't empty,
-        // another error of the journal where it is read or written; nothing else.
+        // Want of memory comes before the pair's device is called, E22 where it is longer than 64 octets, E21 where it
+        // failed; E26 where the journal isn't empty, another error of the journal where it is read or written; nothing
+        // else.
         ensures no_memory { IfErr result (λ r. r.error ≡ error.NoMemory → r.device ≡ device) }
         ensures no_pair { IfErr result (λ r. r.error ≡ error.Store view_error.NoPair → 65 ≤ length (D.seen device)) }
-        ensures no_pair_same { IfErr result (λ r. r.error ≡ error.Store view_error.NoPair → D.seen r.device ≡ D.seen device) }
+        ensures no_pair_same { IfErr result (λ r. r.error ≡ error.Store view_error.NoPair → D.seen r.device ≡
+            D.seen device) }
         ensures device_failed { IfErr result (λ r. r.error ≡ error.Store view_error.DeviceFailed
             → HasRisen (D.failure_count device) (D.failure_count r.device)) }
         ensures foreign_cluster { IfErr result (λ r. r.error ≢ error.Store view_error.ForeignCluster) }
         ensures keeps_journal { IfErr result (λ r. r.error ≢ error.Store view_error.KeepsJournal) }
         ensures not_failed { IfErr result (λ r. r.error ≢ error.Store view_error.Failed) }
         ensures not_halted { IfErr result (λ r. r.error ≢ error.Halted) }
-        ensures stale_journal { IfErr result (λ r. r.error ≡ error.StaleJournal → IsNotEmpty J.seen journal × (r.device ≡ device)) }
+        ensures stale_journal { IfErr result (λ r. r.error ≡ error.StaleJournal → IsNotEmpty J.seen journal
+            × (r.device ≡ device)) }
         ensures foreign_journal { IfErr result (λ r. r.error ≢ error.ForeignJournal) }
         ensures another_version { IfErr result (λ r. r.error ≢ error.Journal note_error.AnotherVersion) }
         ensures not_damaged { IfErr result (λ r. r.error ≢ error.Journal note_error.Damaged) }
@@ -303,9 +326,10 @@ impl<D: Device, J: JournalDevice> Node<D, J> {
         }
     }
 
-    /// The node of a later start. Without a journal it recovers in its stored view, with the number of this start as its nonce, which its device holds before
-    /// anything is given out. With one it goes on as the journal tells it, or, where it can't, it recovers and begins the journal anew; the journal and then the
-    /// pair are stored before anything is given out.
+    /// The node of a later start. Without a journal it recovers in its stored view, with the number of this start as
+    /// its nonce, which its device holds before anything is given out. With one it goes on as the journal tells it, or,
+    /// where it can't, it recovers and begins the journal anew; the journal and then the pair are stored before
+    /// anything is given out.
     pub fn reopen(
         alloc: Global,
         device: D,
@@ -314,18 +338,20 @@ impl<D: Device, J: JournalDevice> Node<D, J> {
     ) -> Result<(Node<D, J>, Outputs<Op>), Refused<D, J>>
         requires within { config.index < config.count }
 
-        // Without a journal a pair of the cluster's own is found, that no journal goes with; the replica is one after its recover event, in that view, with one
-        // restart more as its nonce.
+        // Without a journal a pair of the cluster's own is found, that no journal goes with; the replica is one after
+        // its recover event, in that view, with one restart more as its nonce.
         ensures own { journal ≡ None → OnOk result (IsOwn (found config.cluster (D.seen device))) }
         ensures made { journal ≡ None → let pair = started_pair (found config.cluster (D.seen device)) in
             IfOk result (λ made. IsMade config (recovering config.count pair.view pair.restarts) pair.restarts made.0) }
         ensures outputs { journal ≡ None → let pair = started_pair (found config.cluster (D.seen device)) in
-            IfOk result (λ made. given made.0.replica made.1 ≡ recovers config.count config.index pair.view pair.restarts) }
+            IfOk result (λ made. given made.0.replica made.1 ≡ recovers config.count config.index pair.view
+            pair.restarts) }
         ensures caught_up { journal ≡ None → IfOk result (λ made. made.0.catch_up ≡ 0) }
 
         // With one the replica recovers, or it goes on as the journal tells it.
         ensures restarted { (j : J) → journal ≡ Some j
-            → IfOk result (λ made. IsRestarted config (found config.cluster (D.seen device)) (recorded (J.seen j)) made.0 made.1) }
+            → IfOk result (λ made. IsRestarted config (found config.cluster (D.seen device)) (recorded (J.seen j))
+            made.0 made.1) }
         ensures journaled { IfOk result (λ made. is_some made.0.journal ≡ is_some journal) }
 
         // Every crash from then on leaves that pair, and a journal that tells the node.
@@ -333,53 +359,73 @@ impl<D: Device, J: JournalDevice> Node<D, J> {
         ensures placed { IfOk result (λ made. IsWellPlaced (D.seen device) → IsWellPlaced (D.seen made.0.device)) }
         ensures logged { IfOk result (λ made. KeepsLog J.may_leave made.0) }
 
-        // A crash at any moment of the call leaves what the device might have left before, or the former pair or the new one.
+        // A crash at any moment of the call leaves what the device might have left before, or the former pair or the
+        // new one.
         ensures any_moment { journal ≡ None → IfOk result (λ made. IsWellPlaced (D.seen device)
-            → LeavesOnly D.moment D.left_since device made.0.device (StartLeaves D.seen D.may_leave config.cluster device)) }
+            → LeavesOnly D.moment D.left_since device made.0.device (StartLeaves D.seen D.may_leave config.cluster
+            device)) }
         ensures refused_moment { journal ≡ None → IfErr result (λ r. IsWellPlaced (D.seen device)
             → LeavesOnly D.moment D.left_since device r.device (StartLeaves D.seen D.may_leave config.cluster device)) }
         ensures any_moment_over { (j : J) → journal ≡ Some j → IfOk result (λ made. IsWellPlaced (D.seen device)
-            → LeavesOnly D.moment D.left_since device made.0.device (RestartLeaves D.seen D.may_leave (owner_of config) device (recorded (J.seen j)))) }
+            → LeavesOnly D.moment D.left_since device made.0.device (RestartLeaves D.seen D.may_leave
+            (owner_of config) device (recorded (J.seen j)))) }
         ensures refused_moment_over { (j : J) → journal ≡ Some j → IfErr result (λ r. IsWellPlaced (D.seen device)
-            → LeavesOnly D.moment D.left_since device r.device (RestartLeaves D.seen D.may_leave (owner_of config) device (recorded (J.seen j)))) }
+            → LeavesOnly D.moment D.left_since device r.device (RestartLeaves D.seen D.may_leave (owner_of config)
+            device (recorded (J.seen j)))) }
 
         // And a journal that is read as before, or as that and some first of what the start notes.
-        ensures log_moment { (j : J) → journal ≡ Some j → IfOk result (λ made. LeavesOnlyIn J.moment J.left_since journal (device_in made.0.journal)
+        ensures log_moment { (j : J) → journal ≡ Some j → IfOk result (λ made. LeavesOnlyIn J.moment J.left_since
+            journal (device_in made.0.journal)
             (RestartNotes J.seen J.may_leave (owner_of config) (found config.cluster (D.seen device)) j)) }
-        ensures refused_log_moment { (j : J) → journal ≡ Some j → IfErr result (λ r. LeavesOnlyIn J.moment J.left_since journal r.journal
+        ensures refused_log_moment { (j : J) → journal ≡ Some j →
+            IfErr result (λ r. LeavesOnlyIn J.moment J.left_since journal r.journal
             (RestartNotes J.seen J.may_leave (owner_of config) (found config.cluster (D.seen device)) j)) }
         ensures early { IfErr result (λ r. IsEarly r.error
             → LeavesOnlyIn J.moment J.left_since journal r.journal (RefusedLeaves J.seen J.may_leave journal)) }
         // Nothing is written, cleared or grown before every other check of the start has passed.
         ensures early_same { IfErr result (λ r. IsEarly r.error → IsUnwritten J.seen journal r.journal) }
 
-        // Want of memory writes nothing; nor do E22, where the pair has no next start, E23, where another cluster's pair is found, and E25, where a
-        // journal goes with the pair and none is given. E21 comes only where a device failed.
+        // Want of memory writes nothing; nor do E22, where the pair has no next start, E23, where another cluster's
+        // pair is found, and E25, where a journal goes with the pair and none is given. E21 comes only where a device
+        // failed.
         ensures no_memory { IfErr result (λ r. r.error ≡ error.NoMemory → D.seen r.device ≡ D.seen device) }
-        ensures no_pair { journal ≡ None → IfErr result (λ r. r.error ≡ error.Store view_error.NoPair → CannotStart config.cluster (D.seen device)) }
+        ensures no_pair { journal ≡ None → IfErr result (λ r. r.error ≡ error.Store view_error.NoPair →
+            CannotStart config.cluster (D.seen device)) }
         ensures no_pair_over { (j : J) → journal ≡ Some j
-            → IfErr result (λ r. r.error ≡ error.Store view_error.NoPair → CannotRestart config.cluster (D.seen device)) }
-        ensures no_pair_same { IfErr result (λ r. r.error ≡ error.Store view_error.NoPair → D.seen r.device ≡ D.seen device) }
-        ensures foreign_cluster { IfErr result (λ r. r.error ≡ error.Store view_error.ForeignCluster → found config.cluster (D.seen device) ≡ foreign) }
-        ensures foreign_same { IfErr result (λ r. r.error ≡ error.Store view_error.ForeignCluster → D.seen r.device ≡ D.seen device) }
-        ensures keeps_journal { IfErr result (λ r. r.error ≡ error.Store view_error.KeepsJournal → IsJournaled (found config.cluster (D.seen device))) }
-        ensures keeps_same { IfErr result (λ r. r.error ≡ error.Store view_error.KeepsJournal → D.seen r.device ≡ D.seen device) }
+            → IfErr result (λ r. r.error ≡ error.Store view_error.NoPair → CannotRestart config.cluster
+            (D.seen device)) }
+        ensures no_pair_same { IfErr result (λ r. r.error ≡ error.Store view_error.NoPair → D.seen r.device ≡
+            D.seen device) }
+        ensures foreign_cluster { IfErr result (λ r. r.error ≡ error.Store view_error.ForeignCluster →
+            found config.cluster (D.seen device) ≡ foreign) }
+        ensures foreign_same { IfErr result (λ r. r.error ≡ error.Store view_error.ForeignCluster → D.seen r.device ≡
+            D.seen device) }
+        ensures keeps_journal { IfErr result (λ r. r.error ≡ error.Store view_error.KeepsJournal →
+            IsJournaled (found config.cluster (D.seen device))) }
+        ensures keeps_same { IfErr result (λ r. r.error ≡ error.Store view_error.KeepsJournal → D.seen r.device ≡
+            D.seen device) }
         ensures device_failed { IfErr result (λ r. r.error ≡ error.Store view_error.DeviceFailed
             → HasRisen (D.failure_count device) (D.failure_count r.device)) }
         ensures not_failed { IfErr result (λ r. r.error ≢ error.Store view_error.Failed) }
         ensures not_halted { IfErr result (λ r. r.error ≢ error.Halted) }
 
-        // Nor do E23, where the journal is another cluster's, E26, where it is another replica's or doesn't go with the pair, E27, where a note of another
-        // version says whose it is, and E28, where a string spells no note; no refusal of the journal writes the pair.
-        ensures foreign_journal { (j : J) → journal ≡ Some j → IfErr result (λ r. r.error ≡ error.ForeignJournal → IsForeign (owner_of config) (recorded (J.seen j))) }
+        // Nor do E23, where the journal is another cluster's, E26, where it is another replica's or doesn't go with the
+        // pair, E27, where a note of another version says whose it is, and E28, where a string spells no note; no
+        // refusal of the journal writes the pair.
+        ensures foreign_journal { (j : J) → journal ≡ Some j → IfErr result (λ r. r.error ≡ error.ForeignJournal →
+            IsForeign (owner_of config) (recorded (J.seen j))) }
         ensures stale_journal { (j : J) → journal ≡ Some j → IfErr result (λ r. r.error ≡ error.StaleJournal
             → IsStale (owner_of config) (found config.cluster (D.seen device)) (recorded (J.seen j))) }
         ensures another_version { (j : J) → journal ≡ Some j
-            → IfErr result (λ r. r.error ≡ error.Journal note_error.AnotherVersion → HasAnotherVersion (recorded (J.seen j))) }
-        ensures damaged { (j : J) → journal ≡ Some j → IfErr result (λ r. r.error ≡ error.Journal note_error.Damaged → HasDamage (recorded (J.seen j))) }
+            → IfErr result (λ r. r.error ≡ error.Journal note_error.AnotherVersion →
+            HasAnotherVersion (recorded (J.seen j))) }
+        ensures damaged { (j : J) → journal ≡ Some j → IfErr result (λ r. r.error ≡ error.Journal note_error.Damaged →
+            HasDamage (recorded (J.seen j))) }
         ensures log_failed { (j : J) → journal ≡ Some j
-            → IfErr result (λ r. r.error ≡ error.Journal note_error.DeviceFailed → HasRisenIn J.failure_count journal r.journal) }
-        ensures same { IfErr result (λ r. r.error ≢ error.Store view_error.DeviceFailed → D.seen r.device ≡ D.seen device) }
+            → IfErr result (λ r. r.error ≡ error.Journal note_error.DeviceFailed → HasRisenIn J.failure_count journal
+            r.journal) }
+        ensures same { IfErr result (λ r. r.error ≢ error.Store view_error.DeviceFailed → D.seen r.device ≡
+            D.seen device) }
         ensures no_journal { (f : NoteError) → journal ≡ None → IfErr result (λ r. r.error ≢ error.Journal f) }
         ensures no_foreign_journal { journal ≡ None → IfErr result (λ r. r.error ≢ error.ForeignJournal) }
         ensures no_stale_journal { journal ≡ None → IfErr result (λ r. r.error ≢ error.StaleJournal) }

@@ -1,5 +1,5 @@
-//! A node with a journal at its start: what the journal tells is read, and the replica that goes with it and with the pair is made; what the start
-//! notes is settled before the pair is stored, and both before anything is handed out.
+//! A node with a journal at its start: what the journal tells is read, and the replica that goes with it and with the
+//! pair is made; what the start notes is settled before the pair is stored, and both before anything is handed out.
 ghost use Rattle.std.specs.Prelude.{◌≡◌, ◌≢◌, ◌⊎◌, ℕ, ◌+◌, ◌<◌, ◌≤◌, ◌∷◌, ◌++◌, ◌^◌, List, [], drop, false, Some, is_some, IfOk, IfErr, OnOk, IsErrOf, IsTrue};
 ghost use Rattle.dir_node.specs.Faults.{IsEarly};
 ghost use Rattle.dir_node.specs.private.Faults.{IsClearFault, IsLogFault, IsNoteFault, IsOpenFault, IsWriteFault};
@@ -89,8 +89,8 @@ fn refusal_of(error: JournalError) -> NodeError
     }
 }
 
-/// Reads a journal: what its strings tell; nothing, where it has none; and a reader behind them. What a crash left unsettled is settled, and nothing
-/// is written.
+/// Reads a journal: what its strings tell; nothing, where it has none; and a reader behind them. What a crash left
+/// unsettled is settled, and nothing is written.
 fn read_log<J: JournalDevice>(
     alloc: Global,
     journal: &mut Journal<J>,
@@ -100,12 +100,15 @@ fn read_log<J: JournalDevice>(
     ensures none { IfOk result (λ found. is_whole (drop found.1.end (J.seen journal.new.device)) ≡ false) }
     ensures seen { J.seen journal.new.device ≡ J.seen journal.old.device }
     ensures durable { OnOk result (LogOnly (J.seen journal.new.device) (J.may_leave journal.new.device)) }
-    ensures any_moment { LogLeavesOnly J.moment J.left_since journal.old.device journal.new.device (ReadsAsBefore J.seen J.may_leave journal.old.device) }
+    ensures any_moment { LogLeavesOnly J.moment J.left_since journal.old.device journal.new.device
+        (ReadsAsBefore J.seen J.may_leave journal.old.device) }
     ensures later { J.failure_count journal.old.device ≤ J.failure_count journal.new.device }
     ensures failed { IsErrOf result (NodeError.Journal NoteError.DeviceFailed)
         → LogHasRisen (J.failure_count journal.old.device) (J.failure_count journal.new.device) }
-    ensures version { IsErrOf result (NodeError.Journal NoteError.AnotherVersion) → HasAnotherVersion (recorded (J.seen journal.old.device)) }
-    ensures damaged { IsErrOf result (NodeError.Journal NoteError.Damaged) → HasDamage (recorded (J.seen journal.old.device)) }
+    ensures version { IsErrOf result (NodeError.Journal NoteError.AnotherVersion) →
+        HasAnotherVersion (recorded (J.seen journal.old.device)) }
+    ensures damaged { IsErrOf result (NodeError.Journal NoteError.Damaged) →
+        HasDamage (recorded (J.seen journal.old.device)) }
     ensures causes { IfErr result IsOpenFault }
 {
     match journal.device.sync() {
@@ -118,7 +121,8 @@ fn read_log<J: JournalDevice>(
     }
 }
 
-/// Reads a journal that is to hold nothing, and gives a reader in front of what stands there; E26 where it holds something. Nothing is written.
+/// Reads a journal that is to hold nothing, and gives a reader in front of what stands there; E26 where it holds
+/// something. Nothing is written.
 fn read_first<J: JournalDevice>(
     alloc: Global,
     journal: &mut Journal<J>,
@@ -128,12 +132,14 @@ fn read_first<J: JournalDevice>(
     ensures none { IfOk result (λ reader. is_whole (drop reader.end (J.seen journal.new.device)) ≡ false) }
     ensures seen { J.seen journal.new.device ≡ J.seen journal.old.device }
     ensures durable { OnOk result (LogOnly (J.seen journal.new.device) (J.may_leave journal.new.device)) }
-    ensures any_moment { LogLeavesOnly J.moment J.left_since journal.old.device journal.new.device (ReadsAsBefore J.seen J.may_leave journal.old.device) }
+    ensures any_moment { LogLeavesOnly J.moment J.left_since journal.old.device journal.new.device
+        (ReadsAsBefore J.seen J.may_leave journal.old.device) }
     ensures later { J.failure_count journal.old.device ≤ J.failure_count journal.new.device }
     ensures stale { IsErrOf result NodeError.StaleJournal → recorded (J.seen journal.old.device) ≢ [] }
     ensures failed { IsErrOf result (NodeError.Journal NoteError.DeviceFailed)
         → LogHasRisen (J.failure_count journal.old.device) (J.failure_count journal.new.device) }
-    ensures causes { IfErr result (λ e. (e ≡ error.NoMemory) ⊎ (e ≡ error.Journal NoteError.DeviceFailed) ⊎ (e ≡ error.StaleJournal)) }
+    ensures causes { IfErr result (λ e. (e ≡ error.NoMemory) ⊎ (e ≡ error.Journal NoteError.DeviceFailed)
+        ⊎ (e ≡ error.StaleJournal)) }
 {
     match journal.device.sync() {
         Ok(()) => {}
@@ -148,7 +154,8 @@ fn read_first<J: JournalDevice>(
     }
 }
 
-/// Clears what stands behind the strings of a journal that were read; it may be written to then. Out of memory, nothing is written.
+/// Clears what stands behind the strings of a journal that were read; it may be written to then. Out of memory, nothing
+/// is written.
 fn clear_log<J: JournalDevice>(
     alloc: Global,
     journal: &mut Journal<J>,
@@ -178,7 +185,8 @@ fn clear_log<J: JournalDevice>(
 fn check_owner(told: &Told, owner: Owner) -> Result<(), NodeError>
     ensures ok { OnOk result (IsOf owner (told_view told.now)) }
     ensures foreign { IsErrOf result NodeError.ForeignJournal → told.now.cluster ≢ owner.cluster }
-    ensures stale { IsErrOf result NodeError.StaleJournal → (told.now.index ≢ owner.index) ⊎ (told.now.count ≢ owner.count) }
+    ensures stale { IsErrOf result NodeError.StaleJournal → (told.now.index ≢ owner.index)
+        ⊎ (told.now.count ≢ owner.count) }
     ensures causes { IfErr result (λ e. (e ≡ error.ForeignJournal) ⊎ (e ≡ error.StaleJournal)) }
 {
     if told.cluster != owner.cluster {
@@ -230,8 +238,10 @@ fn way_of(told: Told, pair: Pair, owner: Owner) -> Result<Way, NodeError>
 /// How a replica starts over what was found in its journal.
 fn way_over(found: Option<Told>, pair: Pair, owner: Owner) -> Result<Way, NodeError>
     requires small { pair.restarts < 2 ^ 63 }
-    ensures way { (strings : List (List ℕ)) → IsFound found strings → IfOk result (λ way. IsWay owner pair strings way) }
-    ensures foreign { (strings : List (List ℕ)) → IsFound found strings → IsErrOf result NodeError.ForeignJournal → IsForeign owner strings }
+    ensures way { (strings : List (List ℕ)) → IsFound found strings →
+        IfOk result (λ way. IsWay owner pair strings way) }
+    ensures foreign { (strings : List (List ℕ)) → IsFound found strings → IsErrOf result NodeError.ForeignJournal →
+        IsForeign owner strings }
     ensures stale { (strings : List (List ℕ)) → IsFound found strings → IsErrOf result NodeError.StaleJournal
         → (t : Telling) × Tells nothing_told strings t × IsStaleOf owner pair t }
     ensures causes { IfErr result (λ e. (e ≡ error.ForeignJournal) ⊎ (e ≡ error.StaleJournal)) }
@@ -255,15 +265,18 @@ fn find_way<J: JournalDevice>(
     ensures none { IfOk result (λ found. is_whole (drop found.1.end (J.seen journal.new.device)) ≡ false) }
     ensures seen { J.seen journal.new.device ≡ J.seen journal.old.device }
     ensures durable { OnOk result (LogOnly (J.seen journal.new.device) (J.may_leave journal.new.device)) }
-    ensures any_moment { LogLeavesOnly J.moment J.left_since journal.old.device journal.new.device (ReadsAsBefore J.seen J.may_leave journal.old.device) }
+    ensures any_moment { LogLeavesOnly J.moment J.left_since journal.old.device journal.new.device
+        (ReadsAsBefore J.seen J.may_leave journal.old.device) }
     ensures later { J.failure_count journal.old.device ≤ J.failure_count journal.new.device }
     ensures foreign { IsErrOf result NodeError.ForeignJournal → IsForeign owner (recorded (J.seen journal.old.device)) }
     ensures stale { IsErrOf result NodeError.StaleJournal
         → (t : Telling) × Tells nothing_told (recorded (J.seen journal.old.device)) t × IsStaleOf owner pair t }
     ensures failed { IsErrOf result (NodeError.Journal NoteError.DeviceFailed)
         → LogHasRisen (J.failure_count journal.old.device) (J.failure_count journal.new.device) }
-    ensures version { IsErrOf result (NodeError.Journal NoteError.AnotherVersion) → HasAnotherVersion (recorded (J.seen journal.old.device)) }
-    ensures damaged { IsErrOf result (NodeError.Journal NoteError.Damaged) → HasDamage (recorded (J.seen journal.old.device)) }
+    ensures version { IsErrOf result (NodeError.Journal NoteError.AnotherVersion) →
+        HasAnotherVersion (recorded (J.seen journal.old.device)) }
+    ensures damaged { IsErrOf result (NodeError.Journal NoteError.Damaged) →
+        HasDamage (recorded (J.seen journal.old.device)) }
     ensures causes { IfErr result IsLogFault }
 {
     let (found, reader) = read_log(alloc, journal)?;
@@ -294,7 +307,8 @@ fn start_notes(
     pair: Pair,
     is_whole: bool,
 ) -> Result<Batch, NodeError>
-    ensures notes { IfOk result (λ batch. Puts (begins is_new owner ++ Start pair.restarts pair.view is_whole ∷ []) [] batch) }
+    ensures notes { IfOk result (λ batch. Puts (begins is_new owner ++ Start pair.restarts pair.view is_whole ∷ []) []
+        batch) }
     ensures causes { IfErr result IsNoteFault }
 {
     let mut batch = begun(alloc, owner, is_new)?;
@@ -408,20 +422,25 @@ pub fn store_start<D: Device, J: JournalDevice>(
     ensures stored { OnOk result (Holds D.seen D.may_leave views.new pair) }
     ensures cluster { views.new.cluster ≡ views.old.cluster }
     ensures placed { OnOk result (IsWellPlaced (D.seen views.old.device) → IsWellPlaced (D.seen views.new.device)) }
-    ensures any_moment { IsWellPlaced (D.seen views.old.device) → LeavesOnly D.moment D.left_since views.old.device views.new.device
+    ensures any_moment { IsWellPlaced (D.seen views.old.device) → LeavesOnly D.moment D.left_since views.old.device
+        views.new.device
         (IsFormerOrNew views.old.cluster (found views.old.cluster (D.seen views.old.device)) pair) }
     ensures held { OnOk result (IsHeld J.seen J.may_leave journal.new) }
-    ensures strings { OnOk result (recorded (J.seen journal.new.device) ≡ recorded (J.seen journal.old.device) ++ batch.now) }
+    ensures strings { OnOk result (recorded (J.seen journal.new.device) ≡ recorded (J.seen journal.old.device) ++
+        batch.now) }
     ensures any_log_moment { LogLeavesOnly J.moment J.left_since journal.old.device journal.new.device
         (IsGrown (recorded (J.seen journal.old.device)) batch.now) }
     // Until the journal is settled, the pair's device isn't called.
     ensures log_same { (f : NoteError) → IsErrOf result (NodeError.Journal f) → views.new ≡ views.old }
-    ensures same { IfErr result (λ e. e ≢ error.Store ViewStoreError.DeviceFailed → D.seen views.new.device ≡ D.seen views.old.device) }
+    ensures same { IfErr result (λ e. e ≢ error.Store ViewStoreError.DeviceFailed → D.seen views.new.device ≡
+        D.seen views.old.device) }
     ensures device_failed { IsErrOf result (NodeError.Store ViewStoreError.DeviceFailed)
         → HasRisen (D.failure_count views.old.device) (D.failure_count views.new.device) }
     ensures no_pair { IsErrOf result (NodeError.Store ViewStoreError.NoPair)
-        → (2 ^ 63 ≤ pair.view) ⊎ (2 ^ 63 ≤ pair.restarts) ⊎ (2 ^ 63 ≤ sequence_of (taken_from (D.seen views.old.device)) + 1) }
-    ensures no_pair_same { IsErrOf result (NodeError.Store ViewStoreError.NoPair) → D.seen views.new.device ≡ D.seen views.old.device }
+        → (2 ^ 63 ≤ pair.view) ⊎ (2 ^ 63 ≤ pair.restarts)
+        ⊎ (2 ^ 63 ≤ sequence_of (taken_from (D.seen views.old.device)) + 1) }
+    ensures no_pair_same { IsErrOf result (NodeError.Store ViewStoreError.NoPair) → D.seen views.new.device ≡
+        D.seen views.old.device }
     ensures log_failed { IsErrOf result (NodeError.Journal NoteError.DeviceFailed)
         → LogHasRisen (J.failure_count journal.old.device) (J.failure_count journal.new.device) }
     ensures causes { IfErr result IsWriteFault }
@@ -446,36 +465,45 @@ pub fn start_over<D: Device, J: JournalDevice>(
     requires within { owner.index < owner.count }
     requires cluster { views.old.cluster ≡ owner.cluster }
     requires new { views.old.status ≢ status.Failed }
-    ensures made { IfOk result (λ m. IsStartedOver owner (found owner.cluster (D.seen views.old.device)) (recorded (J.seen journal.old.device)) m) }
+    ensures made { IfOk result (λ m. IsStartedOver owner (found owner.cluster (D.seen views.old.device))
+        (recorded (J.seen journal.old.device)) m) }
     ensures stored { IfOk result (λ m. Holds D.seen D.may_leave views.new m.pair) }
     ensures cluster { OnOk result (views.new.cluster ≡ views.old.cluster) }
     ensures placed { OnOk result (IsWellPlaced (D.seen views.old.device) → IsWellPlaced (D.seen views.new.device)) }
     ensures held { OnOk result (IsHeld J.seen J.may_leave journal.new) }
-    ensures told { IfOk result (λ m. IsMemory (head_of owner.cluster owner.index owner.count m.pair.restarts) (state m.replica) (recorded (J.seen journal.new.device))) }
+    ensures told { IfOk result (λ m. IsMemory (head_of owner.cluster owner.index owner.count m.pair.restarts)
+        (state m.replica) (recorded (J.seen journal.new.device))) }
 
     // What a crash at any moment leaves of either device.
-    ensures any_moment { IsWellPlaced (D.seen views.old.device) → LeavesOnly D.moment D.left_since views.old.device views.new.device
+    ensures any_moment { IsWellPlaced (D.seen views.old.device) → LeavesOnly D.moment D.left_since views.old.device
+        views.new.device
         (RestartLeaves D.seen D.may_leave owner views.old.device (recorded (J.seen journal.old.device))) }
     ensures any_log_moment { LogLeavesOnly J.moment J.left_since journal.old.device journal.new.device
         (RestartNotes J.seen J.may_leave owner (found owner.cluster (D.seen views.old.device)) journal.old.device) }
 
     // What each refusal says, and that nothing was written where no device has failed.
-    ensures same { IfErr result (λ e. e ≢ error.Store ViewStoreError.DeviceFailed → D.seen views.new.device ≡ D.seen views.old.device) }
+    ensures same { IfErr result (λ e. e ≢ error.Store ViewStoreError.DeviceFailed → D.seen views.new.device ≡
+        D.seen views.old.device) }
     ensures log_same { IfErr result (λ e. IsEarly e
-        → LogLeavesOnly J.moment J.left_since journal.old.device journal.new.device (ReadsAsBefore J.seen J.may_leave journal.old.device)) }
+        → LogLeavesOnly J.moment J.left_since journal.old.device journal.new.device (ReadsAsBefore J.seen J.may_leave
+        journal.old.device)) }
     ensures early_same { IfErr result (λ e. IsEarly e → J.seen journal.new.device ≡ J.seen journal.old.device) }
-    ensures no_pair { IsErrOf result (NodeError.Store ViewStoreError.NoPair) → CannotRestart owner.cluster (D.seen views.old.device) }
+    ensures no_pair { IsErrOf result (NodeError.Store ViewStoreError.NoPair) → CannotRestart owner.cluster
+        (D.seen views.old.device) }
     ensures foreign_cluster { IsErrOf result (NodeError.Store ViewStoreError.ForeignCluster)
         → found owner.cluster (D.seen views.old.device) ≡ foreign }
-    ensures foreign_journal { IsErrOf result NodeError.ForeignJournal → IsForeign owner (recorded (J.seen journal.old.device)) }
+    ensures foreign_journal { IsErrOf result NodeError.ForeignJournal →
+        IsForeign owner (recorded (J.seen journal.old.device)) }
     ensures stale_journal { IsErrOf result NodeError.StaleJournal
         → IsStale owner (found owner.cluster (D.seen views.old.device)) (recorded (J.seen journal.old.device)) }
     ensures device_failed { IsErrOf result (NodeError.Store ViewStoreError.DeviceFailed)
         → HasRisen (D.failure_count views.old.device) (D.failure_count views.new.device) }
     ensures log_failed { IsErrOf result (NodeError.Journal NoteError.DeviceFailed)
         → LogHasRisen (J.failure_count journal.old.device) (J.failure_count journal.new.device) }
-    ensures another_version { IsErrOf result (NodeError.Journal NoteError.AnotherVersion) → HasAnotherVersion (recorded (J.seen journal.old.device)) }
-    ensures damaged { IsErrOf result (NodeError.Journal NoteError.Damaged) → HasDamage (recorded (J.seen journal.old.device)) }
+    ensures another_version { IsErrOf result (NodeError.Journal NoteError.AnotherVersion) →
+        HasAnotherVersion (recorded (J.seen journal.old.device)) }
+    ensures damaged { IsErrOf result (NodeError.Journal NoteError.Damaged) →
+        HasDamage (recorded (J.seen journal.old.device)) }
     ensures keeps_journal { IsErrOf result (NodeError.Store ViewStoreError.KeepsJournal) → ⊥ }
     ensures not_failed { IsErrOf result (NodeError.Store ViewStoreError.Failed) → ⊥ }
     ensures not_halted { IsErrOf result NodeError.Halted → ⊥ }
@@ -498,11 +526,13 @@ fn begin_log<J: JournalDevice>(
     owner: Owner,
 ) -> Result<(), NodeError>
     ensures held { OnOk result (IsHeldIn J.seen J.may_leave (Some journal.new)) }
-    ensures told { OnOk result (IsToldIn J.seen (Some journal.new) (head_of owner.cluster owner.index owner.count 1) (first owner.count)) }
+    ensures told { OnOk result (IsToldIn J.seen (Some journal.new) (head_of owner.cluster owner.index owner.count 1)
+        (first owner.count)) }
     ensures any_moment { LeavesOnlyIn J.moment J.left_since (Some journal.old.device) (Some journal.new.device)
         (FirstLeaves J.seen J.may_leave (Some journal.old.device) (first_notes owner)) }
     ensures early { IfErr result (λ e. IsEarly e
-        → LeavesOnlyIn J.moment J.left_since (Some journal.old.device) (Some journal.new.device) (RefusedLeaves J.seen J.may_leave (Some journal.old.device))) }
+        → LeavesOnlyIn J.moment J.left_since (Some journal.old.device) (Some journal.new.device)
+        (RefusedLeaves J.seen J.may_leave (Some journal.old.device))) }
     ensures early_same { IfErr result (λ e. IsEarly e → J.seen journal.new.device ≡ J.seen journal.old.device) }
     ensures stale { IsErrOf result NodeError.StaleJournal → IsNotEmpty J.seen (Some journal.old.device) }
     ensures failed { IsErrOf result (NodeError.Journal NoteError.DeviceFailed)
@@ -526,20 +556,24 @@ fn begin_log<J: JournalDevice>(
     }
 }
 
-/// Begins the journal, where there is one, of a replica that starts for the first time, normal in view 0; it is empty before.
+/// Begins the journal, where there is one, of a replica that starts for the first time, normal in view 0; it is empty
+/// before.
 pub fn begin_first<J: JournalDevice>(
     alloc: Global,
     journal: &mut Option<Journal<J>>,
     owner: Owner,
 ) -> Result<(), NodeError>
     ensures held { OnOk result (IsHeldIn J.seen J.may_leave journal.new) }
-    ensures told { OnOk result (IsToldIn J.seen journal.new (head_of owner.cluster owner.index owner.count 1) (first owner.count)) }
+    ensures told { OnOk result (IsToldIn J.seen journal.new (head_of owner.cluster owner.index owner.count 1)
+        (first owner.count)) }
     ensures journaled { is_some journal.new ≡ is_some journal.old }
     ensures any_moment { LeavesOnlyIn J.moment J.left_since (device_in journal.old) (device_in journal.new)
         (FirstLeaves J.seen J.may_leave (device_in journal.old) (first_notes owner)) }
     ensures early { IfErr result (λ e. IsEarly e
-        → LeavesOnlyIn J.moment J.left_since (device_in journal.old) (device_in journal.new) (RefusedLeaves J.seen J.may_leave (device_in journal.old))) }
-    ensures early_same { IfErr result (λ e. IsEarly e → IsUnwritten J.seen (device_in journal.old) (device_in journal.new)) }
+        → LeavesOnlyIn J.moment J.left_since (device_in journal.old) (device_in journal.new)
+        (RefusedLeaves J.seen J.may_leave (device_in journal.old))) }
+    ensures early_same { IfErr result (λ e. IsEarly e → IsUnwritten J.seen (device_in journal.old)
+        (device_in journal.new)) }
     ensures stale { IsErrOf result NodeError.StaleJournal → IsNotEmpty J.seen (device_in journal.old) }
     ensures failed { IsErrOf result (NodeError.Journal NoteError.DeviceFailed)
         → HasRisenIn J.failure_count (device_in journal.old) (device_in journal.new) }

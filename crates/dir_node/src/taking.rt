@@ -1,5 +1,5 @@
-//! A replica takes events, and its journal, where it keeps one, goes along. Nothing that comes of them is handed out here: the pair is stored
-//! before that, by the caller.
+//! A replica takes events, and its journal, where it keeps one, goes along. Nothing that comes of them is handed out
+//! here: the pair is stored before that, by the caller.
 ghost use Rattle.std.specs.Prelude.{◌≡◌, ◌∷◌, [], Some, None, is_some, IfOk, IfErr, IsErrOf, OnOk};
 ghost use Rattle.dir_node.specs.Handling.{MakesSteps};
 ghost use Rattle.dir_node.specs.Logged.{HasRisenIn, LeavesOnlyIn, TellsSome, device_in};
@@ -20,8 +20,8 @@ use vr_state::event::Event;
 use vr_state::message::Outputs;
 use vr_state::replica::Replica;
 
-/// A replica takes an event, and its journal keeps it as it is then. `NoMemory` leaves the event out: nothing has changed. After another error the
-/// replica and its journal are of no use until the replica is started again.
+/// A replica takes an event, and its journal keeps it as it is then. `NoMemory` leaves the event out: nothing has
+/// changed. After another error the replica and its journal are of no use until the replica is started again.
 fn take_noted<J: JournalDevice>(
     alloc: Global,
     replica: &mut Replica<Op>,
@@ -29,11 +29,14 @@ fn take_noted<J: JournalDevice>(
     event: Event<Op>,
 ) -> Result<Outputs<Op>, Untaken>
     requires held { IsHeldIn J.seen J.may_leave (Some journal.old) }
-    ensures step { IfOk result (λ out. given (state replica.new) out ≡ step_of replica.old.count replica.old.index (state replica.old) event) }
-    ensures no_memory { IsErrOf result Untaken.NoMemory → (state replica.new ≡ state replica.old) × (journal.new ≡ journal.old) }
+    ensures step { IfOk result (λ out. given (state replica.new) out ≡ step_of replica.old.count replica.old.index
+        (state replica.old) event) }
+    ensures no_memory { IsErrOf result Untaken.NoMemory → (state replica.new ≡ state replica.old)
+        × (journal.new ≡ journal.old) }
     ensures index { replica.new.index ≡ replica.old.index }
     ensures count { replica.new.count ≡ replica.old.count }
-    ensures kept { OnOk result (GoesAlong J.seen J.may_leave (state replica.old) (state replica.new) (Some journal.old) (Some journal.new)) }
+    ensures kept { OnOk result (GoesAlong J.seen J.may_leave (state replica.old) (state replica.new)
+        (Some journal.old) (Some journal.new)) }
     ensures any_moment { (t : Told) → IsToldIn J.seen (Some journal.old) t (state replica.old)
         → LeavesOnlyIn J.moment J.left_since (Some journal.old.device) (Some journal.new.device)
         (TellsSome t replica.old.count replica.old.index (state replica.old) (event ∷ [])) }
@@ -50,8 +53,9 @@ fn take_noted<J: JournalDevice>(
     }
 }
 
-/// A replica takes an event, and its journal, where it keeps one, keeps it as it is then. `NoMemory` leaves the event out: nothing has changed. After
-/// another error, which isn't want of memory, the replica and its journal are of no use until the replica is started again.
+/// A replica takes an event, and its journal, where it keeps one, keeps it as it is then. `NoMemory` leaves the event
+/// out: nothing has changed. After another error, which isn't want of memory, the replica and its journal are of no use
+/// until the replica is started again.
 pub fn take_one<J: JournalDevice>(
     alloc: Global,
     replica: &mut Replica<Op>,
@@ -59,12 +63,15 @@ pub fn take_one<J: JournalDevice>(
     event: Event<Op>,
 ) -> Result<Outputs<Op>, Untaken>
     requires held { IsHeldIn J.seen J.may_leave journal.old }
-    ensures step { IfOk result (λ out. given (state replica.new) out ≡ step_of replica.old.count replica.old.index (state replica.old) event) }
-    ensures no_memory { IsErrOf result Untaken.NoMemory → (state replica.new ≡ state replica.old) × (journal.new ≡ journal.old) }
+    ensures step { IfOk result (λ out. given (state replica.new) out ≡ step_of replica.old.count replica.old.index
+        (state replica.old) event) }
+    ensures no_memory { IsErrOf result Untaken.NoMemory → (state replica.new ≡ state replica.old)
+        × (journal.new ≡ journal.old) }
     ensures index { replica.new.index ≡ replica.old.index }
     ensures count { replica.new.count ≡ replica.old.count }
     ensures journaled { is_some journal.new ≡ is_some journal.old }
-    ensures kept { OnOk result (GoesAlong J.seen J.may_leave (state replica.old) (state replica.new) journal.old journal.new) }
+    ensures kept { OnOk result (GoesAlong J.seen J.may_leave (state replica.old) (state replica.new) journal.old
+        journal.new) }
     ensures any_moment { (t : Told) → IsToldIn J.seen journal.old t (state replica.old)
         → LeavesOnlyIn J.moment J.left_since (device_in journal.old) (device_in journal.new)
         (TellsSome t replica.old.count replica.old.index (state replica.old) (event ∷ [])) }
@@ -84,14 +91,15 @@ pub fn take_one<J: JournalDevice>(
     }
 }
 
-/// A replica makes the steps of these events, one after another. Each gives its outputs, or is left out for want of memory; the error of the whole is
-/// want of memory too, and comes before any step.
+/// A replica makes the steps of these events, one after another. Each gives its outputs, or is left out for want of
+/// memory; the error of the whole is want of memory too, and comes before any step.
 fn step_all(
     alloc: Global,
     replica: &mut Replica<Op>,
     events: Vec<Event<Op>>,
 ) -> Result<Vec<Result<Outputs<Op>, AllocError>>, AllocError>
-    ensures taken { IfOk result (λ outputs. MakesSteps replica.old.count replica.old.index (state replica.old) events.items outputs.items (state replica.new)) }
+    ensures taken { IfOk result (λ outputs. MakesSteps replica.old.count replica.old.index (state replica.old)
+        events.items outputs.items (state replica.new)) }
     ensures err { IfErr result (λ _. state replica.new ≡ state replica.old) }
     ensures index { replica.new.index ≡ replica.old.index }
     ensures count { replica.new.count ≡ replica.old.count }
@@ -103,9 +111,10 @@ fn step_all(
     Ok(all)
 }
 
-/// A replica takes these events, one after another, and its journal, where it keeps one, keeps it as it is then, by one write and one sync. Each event
-/// gives its outputs, or is left out for want of memory; at `NoMemory` all are left out, and nothing has changed. After another error, which isn't
-/// want of memory, the replica and its journal are of no use until the replica is started again.
+/// A replica takes these events, one after another, and its journal, where it keeps one, keeps it as it is then, by one
+/// write and one sync. Each event gives its outputs, or is left out for want of memory; at `NoMemory` all are left out,
+/// and nothing has changed. After another error, which isn't want of memory, the replica and its journal are of no use
+/// until the replica is started again.
 pub fn take_all<J: JournalDevice>(
     alloc: Global,
     replica: &mut Replica<Op>,
@@ -113,12 +122,15 @@ pub fn take_all<J: JournalDevice>(
     events: Vec<Event<Op>>,
 ) -> Result<Vec<Result<Outputs<Op>, AllocError>>, Untaken>
     requires held { IsHeldIn J.seen J.may_leave journal.old }
-    ensures taken { IfOk result (λ outputs. MakesSteps replica.old.count replica.old.index (state replica.old) events.items outputs.items (state replica.new)) }
-    ensures no_memory { IsErrOf result Untaken.NoMemory → (state replica.new ≡ state replica.old) × (journal.new ≡ journal.old) }
+    ensures taken { IfOk result (λ outputs. MakesSteps replica.old.count replica.old.index (state replica.old)
+        events.items outputs.items (state replica.new)) }
+    ensures no_memory { IsErrOf result Untaken.NoMemory → (state replica.new ≡ state replica.old)
+        × (journal.new ≡ journal.old) }
     ensures index { replica.new.index ≡ replica.old.index }
     ensures count { replica.new.count ≡ replica.old.count }
     ensures journaled { is_some journal.new ≡ is_some journal.old }
-    ensures kept { OnOk result (GoesAlong J.seen J.may_leave (state replica.old) (state replica.new) journal.old journal.new) }
+    ensures kept { OnOk result (GoesAlong J.seen J.may_leave (state replica.old) (state replica.new) journal.old
+        journal.new) }
     ensures any_moment { (t : Told) → IsToldIn J.seen journal.old t (state replica.old)
         → LeavesOnlyIn J.moment J.left_since (device_in journal.old) (device_in journal.new)
         (TellsSome t replica.old.count replica.old.index (state replica.old) events.items) }

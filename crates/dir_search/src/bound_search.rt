@@ -41,9 +41,11 @@ fn guide(alloc: Global, indexed: &IndexedTree, bound: &BoundFilter) -> Result<Si
     ensures few { IfOk result (λ s. (ks : List ℕ) → AreNumbersOf ks indexed.now.tree.entries
         → LeavesFew (is_open (is_in (lists_of indexed.now) ks s.must) (is_in (lists_of indexed.now) ks s.may))
         indexed.now.indexes bound.now indexed.now.tree.entries ks) }
-    ensures plans { IfOk result (λ s. (m : SchemaModel) (t : FilterTree) → IsBoundTo m t bound.now → IsMadeOf m t bound.now
+    ensures plans { IfOk result (λ s. (m : SchemaModel) (t : FilterTree) → IsBoundTo m t bound.now →
+        IsMadeOf m t bound.now
         → ArePlansFor m indexed.now.indexes t s.must s.may) }
-    ensures told { IfOk result (λ s. (ks : List ℕ) → AreNumbersOf ks indexed.now.tree.entries → (n : ℕ) → has_number n ks ≡ true
+    ensures told { IfOk result (λ s. (ks : List ℕ) → AreNumbersOf ks indexed.now.tree.entries → (n : ℕ) →
+        has_number n ks ≡ true
         → is_open (is_in (lists_of indexed.now) ks s.must) (is_in (lists_of indexed.now) ks s.may) n
         ≡ leaves_open_on indexed.now.indexes s.must s.may (entry_at n indexed.now.tree.entries)) }
 {
@@ -86,8 +88,8 @@ impl<'a> Drop for BoundSearch<'a> {
 impl BoundSearch<'_> {
     ghost use Rattle.dir_search.specs.private.Among.{FindsOf, FindsWhere};
 
-    /// What is shown of the entries of these numbers that match, up to the limit; 0 is no limit. The numbers come from the posting lists; the
-    /// filter is evaluated only where its plans leave open whether it is True.
+    /// What is shown of the entries of these numbers that match, up to the limit; 0 is no limit. The numbers come from
+    /// the posting lists; the filter is evaluated only where its plans leave open whether it is True.
     fn among(&self, numbers: &NumberSet) -> Result<SearchAnswer, AllocError>
         requires { AreNumbersOf numbers.now self.now.indexed.now.tree.entries }
         ensures { IfOk result (FindsOf self.now numbers.now) }
@@ -136,7 +138,8 @@ impl BoundSearch<'_> {
 
     /// The search of the entries right under the base; right under the empty name stands the root.
     fn level(&self) -> Result<SearchAnswer, AllocError>
-        ensures { IfOk result (FindsWhere self.now (is_right_under (rdns self.now.indexed.now.tree.suffix) (rdns self.now.base.now))) }
+        ensures { IfOk result (FindsWhere self.now (is_right_under (rdns self.now.indexed.now.tree.suffix)
+            (rdns self.now.base.now))) }
     {
         if is_unnamed(self.base) {
             return self.root();

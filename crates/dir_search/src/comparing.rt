@@ -57,7 +57,8 @@ fn has_under(schema: &Schema, attributes: &[Attribute], type_id: TypeId) -> bool
 
 /// The equality item of an assertion.
 fn equality(alloc: Global, ava: &AttributeValueAssertion) -> Result<Filter, AllocError>
-    ensures { IfOk result (λ f. filter_view f ≡ item (comparison equal_to (string_bytes ava.now.attribute_desc) ava.now.assertion_value.items)) }
+    ensures { IfOk result (λ f. filter_view f ≡ item (comparison equal_to (string_bytes ava.now.attribute_desc)
+        ava.now.assertion_value.items)) }
 {
     let description = ava.attribute_desc.clone()?;
     let assertion = ava.assertion_value.as_slice().to_vec(alloc)?;
@@ -77,7 +78,8 @@ fn compare_type(
 ) -> Result<ResultCode, AllocError>
     requires keyed { IsKeyedBy schema.now entry.now }
     requires named { find schema.now (string_bytes ava.now.attribute_desc) ≡ Some type_id }
-    ensures { IfOk result (λ code. code ≡ code_on_type schema.now ava.now.assertion_value.items (attributes_of entry.now) type_id) }
+    ensures { IfOk result (λ code. code ≡ code_on_type schema.now ava.now.assertion_value.items
+        (attributes_of entry.now) type_id) }
 {
     if !is_of_syntax(alloc, schema, type_id, &ava.assertion_value)? {
         return Ok(ResultCode::INVALID_ATTRIBUTE_SYNTAX);
@@ -115,7 +117,8 @@ fn compare_at(
     name: &[Rdn],
     ava: &AttributeValueAssertion,
 ) -> Result<Reply, AllocError>
-    ensures { IfOk result (λ r. reply_view r ≡ reply_on store.now.directory.schema (ava_view ava.now) (entry_asked store.now.directory name.now)) }
+    ensures { IfOk result (λ r. reply_view r ≡ reply_on store.now.directory.schema (ava_view ava.now)
+        (entry_asked store.now.directory name.now)) }
 {
     match store.find(name) {
         Some((_, entry)) => {
@@ -126,9 +129,9 @@ fn compare_at(
     }
 }
 
-/// The reply to a compare (RFC 4511 4.10): 34 for a text that is no name, 32 for a name without an entry, 17 for a description that is no type's,
-/// 21 for an assertion that is not in the type's syntax, 16 where the entry has no such attribute, then 6 or 5; 21 where the type has
-/// no EQUALITY rule. Only want of memory is an error.
+/// The reply to a compare (RFC 4511 4.10): 34 for a text that is no name, 32 for a name without an entry, 17 for a
+/// description that is no type's, 21 for an assertion that is not in the type's syntax, 16 where the entry has no such
+/// attribute, then 6 or 5; 21 where the type has no EQUALITY rule. Only want of memory is an error.
 pub fn compare(
     alloc: Global,
     store: &Reading<'_>,

@@ -57,10 +57,12 @@ fn is_number(kept: &Option<u64>, number: u64) -> bool
     }
 }
 
-/// What is printed behind the relative name of an entry right below a number's; nothing, where there is no entry of the number.
+/// What is printed behind the relative name of an entry right below a number's; nothing, where there is no entry of the
+/// number.
 #[tactic(auto, using(crate::proofs::NamesAt::behind_some, crate::proofs::NamesAt::behind_none))]
 fn behind_of(alloc: Global, schema: &Schema, tree: &Tree, number: u64) -> Result<String, AllocError>
-    ensures { IfOk result (λ t. string_bytes t ≡ printed_behind schema.now (reverse (name_of (entry_at number tree.now.entries)))) }
+    ensures { IfOk result (λ t. string_bytes t ≡ printed_behind schema.now
+        (reverse (name_of (entry_at number tree.now.entries)))) }
 {
     match tree.rdns_from_leaf(alloc, number)? {
         Some(rdns) => print_behind(alloc, schema, rdns.as_slice()),
@@ -110,7 +112,8 @@ impl<'a> EntryReader<'a> {
     #[tactic(auto, using(crate::proofs::NamesAt::printed_below))]
     pub fn print_name(&mut self, number: u64) -> Result<String, AllocError>
         ensures same { self.new ≡ self.old }
-        ensures name { IfOk result (λ t. string_bytes t ≡ printed_name self.old.schema (name_of (entry_at number self.old.entries))) }
+        ensures name { IfOk result (λ t. string_bytes t ≡ printed_name self.old.schema
+            (name_of (entry_at number self.old.entries))) }
     {
         match self.visit.superior(number) {
             Some((superior, rdn)) => {

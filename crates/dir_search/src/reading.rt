@@ -38,7 +38,8 @@ pub fn compare_at(
     named: u64,
     request: &CompareRequest,
 ) -> Result<Found<Reply>, LookError>
-    ensures { IsReadAt number named (compared store.now.directory (compare_view request.now)) (looked reply_view result) }
+    ensures { IsReadAt number named (compared store.now.directory (compare_view request.now))
+        (looked reply_view result) }
 {
     if named > number {
         return Err(LookError::NotYet { at: number });

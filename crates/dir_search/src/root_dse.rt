@@ -69,7 +69,8 @@ fn octets_of(alloc: Global, texts: &[&str]) -> Result<Vec<Vec<u8>>, AllocError>
 impl Showing<'_> {
     /// An operational attribute with these values, or without them.
     fn operational(&self, name: &str, values: &[&str]) -> Result<PartialAttribute, AllocError>
-        ensures { IfOk result (λ a. attribute_view a ≡ without_values self.now.request.now.types_only (record { description = name.now; values = map (λ t. t.now) values.now })) }
+        ensures { IfOk result (λ a. attribute_view a ≡ without_values self.now.request.now.types_only
+            (record { description = name.now; values = map (λ t. t.now) values.now })) }
     {
         let values = if self.request.types_only {
             Vec::new(self.alloc)
@@ -91,7 +92,8 @@ impl Showing<'_> {
         values: &[&str],
     ) -> Result<(), AllocError>
         ensures { OnOk result (map attribute_view shown.new.items ≡ map attribute_view shown.old.items
-            ++ where_named (selectors_of self.now.request.now) self.now.request.now.types_only (record { description = name.now; values = map (λ t. t.now) values.now })) }
+            ++ where_named (selectors_of self.now.request.now) self.now.request.now.types_only
+            (record { description = name.now; values = map (λ t. t.now) values.now })) }
     {
         if self.shows.asks_for(name) {
             shown.push(self.operational(name, values)?)?;
@@ -108,7 +110,8 @@ fn shown_root(
     request: &SearchRequest,
 ) -> Result<FoundEntry, AllocError>
     requires attributes { attributes_of entry.now ≡ dse_attributes store.now.directory.schema }
-    ensures { IfOk result (λ e. found_view e ≡ dse_selected store.now.directory (selectors_of request.now) request.now.types_only) }
+    ensures { IfOk result (λ e. found_view e ≡ dse_selected store.now.directory (selectors_of request.now)
+        request.now.types_only) }
 {
     let shows = shows_for(alloc, store, request)?;
     let showing = Showing {
@@ -136,7 +139,8 @@ fn takes_root(
 ) -> Result<bool, AllocError>
     requires attributes { attributes_of entry.now ≡ dse_attributes schema.now }
     requires keyed { IsKeyedBy schema.now entry.now }
-    ensures { IfOk result (λ b. b ≡ is_true (filter_value schema.now (filter_view filter.now) [] (dse_attributes schema.now))) }
+    ensures { IfOk result (λ b. b ≡ is_true (filter_value schema.now (filter_view filter.now) []
+        (dse_attributes schema.now))) }
 {
     let bound = bind(alloc, schema, filter)?;
     let unnamed = Name::from_rdns(Vec::new(alloc));
@@ -149,7 +153,13 @@ pub fn show_root(
     store: &Reading<'_>,
     request: &SearchRequest,
 ) -> Result<SearchAnswer, AllocError>
-    ensures found { IfOk result (λ a. Finds a (record { code = 0; matched = []; entries = dse_matching store.now.directory (search_view request.now) }) 1) }
+    ensures found { IfOk result
+        (λ a. Finds a (record {
+          code = 0;
+          matched = [];
+          entries = dse_matching store.now.directory
+              (search_view request.now);
+        }) 1) }
     ensures counted { IfOk result (λ a. a.tests ≡ 1) }
 {
     let entry = root_entry(alloc, store.schema())?;

@@ -20,7 +20,8 @@ pub fn numbers_right_under<'a>(tree: &'a Tree, none: &'a NumberSet, base: &[Rdn]
     requires none { none.now ≡ [] }
     requires here { is_some (find (rdns base.now) tree.now.entries) ≡ true }
     requires named { is_empty base.now ≡ false }
-    ensures { result.now ≡ numbers (λ e. is_right_under (rdns tree.now.suffix) (rdns base.now) (rdns e.name)) tree.now.entries }
+    ensures { result.now ≡ numbers (λ e. is_right_under (rdns tree.now.suffix) (rdns base.now) (rdns e.name))
+        tree.now.entries }
 {
     match tree.children(base) {
         Some(numbers) => numbers,

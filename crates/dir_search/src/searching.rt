@@ -54,10 +54,13 @@ fn search_scope(
     requires keyed { AreKeyedBy schema.now indexed.now.tree.entries }
     requires stands { stands (directory schema.now indexed.now.tree) base.now ≡ true }
     requires shown_as { arc_value shows.now ≡ shows_of schema.now request.now }
-    ensures found { IfOk result (λ a. Finds a (found_at (directory schema.now indexed.now.tree) (search_view request.now) base.now)
+    ensures found { IfOk result (λ a. Finds a (found_at (directory schema.now indexed.now.tree)
+        (search_view request.now) base.now)
         (length (in_scope (directory schema.now indexed.now.tree) request.now.scope base.now))) }
-    ensures few { IfOk result (λ a. IsFewAtBase indexed.now.indexes (directory schema.now indexed.now.tree) (search_view request.now) base.now a.tests) }
-    ensures counted { IfOk result (λ a. IsCountAtBase indexed.now.indexes (directory schema.now indexed.now.tree) (search_view request.now) base.now a.tests) }
+    ensures few { IfOk result (λ a. IsFewAtBase indexed.now.indexes (directory schema.now indexed.now.tree)
+        (search_view request.now) base.now a.tests) }
+    ensures counted { IfOk result (λ a. IsCountAtBase indexed.now.indexes (directory schema.now indexed.now.tree)
+        (search_view request.now) base.now a.tests) }
 {
     indexed.tree().is_directory();
     tests_are_items();
@@ -99,7 +102,8 @@ fn search_at(
     base: &[Rdn],
     request: &SearchRequest,
 ) -> Result<SearchAnswer, AllocError>
-    ensures found { IfOk result (λ a. Finds a (answer_at store.now.directory (search_view request.now) base.now) (tried_at store.now.directory (search_view request.now) base.now)) }
+    ensures found { IfOk result (λ a. Finds a (answer_at store.now.directory (search_view request.now) base.now)
+        (tried_at store.now.directory (search_view request.now) base.now)) }
     ensures few { IfOk result (λ a. goes_over store.now.directory (search_view request.now) base.now ≡ true
         → IsFewAtBase store.now.indexes store.now.directory (search_view request.now) base.now a.tests) }
     ensures counted { IfOk result (λ a. IsCountFrom store.now (search_view request.now) base.now a.tests) }
@@ -135,8 +139,10 @@ fn search_text(
     store: &Reading<'_>,
     request: &SearchRequest,
 ) -> Result<SearchAnswer, AllocError>
-    ensures found { IfOk result (λ a. Finds a (answer_of store.now.directory (search_view request.now) (name_of_text store.now.directory.schema (search_view request.now).base))
-        (tried_of store.now.directory (search_view request.now) (name_of_text store.now.directory.schema (search_view request.now).base))) }
+    ensures found { IfOk result (λ a. Finds a (answer_of store.now.directory (search_view request.now)
+        (name_of_text store.now.directory.schema (search_view request.now).base))
+        (tried_of store.now.directory (search_view request.now) (name_of_text store.now.directory.schema
+        (search_view request.now).base))) }
     ensures few { IfOk result (λ a. LooksAtFew store.now (search_view request.now) a.tests) }
     ensures counted { IfOk result (λ a. IsCountOf store.now (search_view request.now) a.tests) }
 {
@@ -147,9 +153,10 @@ fn search_text(
     }
 }
 
-/// The answer of a search (RFC 4511 4.5.1 and 4.5.2): the entries in scope whose filter value is True, in order of number, each once,
-/// with just the selected attributes. Code 4 where there are more than the size limit, 2 for the scope that RFC 4511 has not, 34 for a base that
-/// is no name, 32 for one that has no entry. Only want of memory is an error.
+/// The answer of a search (RFC 4511 4.5.1 and 4.5.2): the entries in scope whose filter value is True, in order of
+/// number, each once, with just the selected attributes. Code 4 where there are more than the size limit, 2 for the
+/// scope that RFC 4511 has not, 34 for a base that is no name, 32 for one that has no entry. Only want of memory is an
+/// error.
 pub fn search(
     alloc: Global,
     store: &Reading<'_>,
@@ -160,12 +167,12 @@ pub fn search(
     // The count that is told is at most that of the entries in scope.
     ensures tests { IfOk result (λ a. a.tests ≤ tried store.now.directory (search_view request.now)) }
 
-    // It is 0, where the indexes decide the filter; of an `and` at most as many as each decided part is True on; and with a size limit no entry
-    // behind the first past it is counted.
+    // It is 0, where the indexes decide the filter; of an `and` at most as many as each decided part is True on; and
+    // with a size limit no entry behind the first past it is counted.
     ensures few { IfOk result (λ a. LooksAtFew store.now (search_view request.now) a.tests) }
 
-    // It is just that of the entries in scope that plans of the filter leave open, up to the first past the size limit; plans are what the indexes
-    // tell of it, and where the indexes decide the filter nothing is left open.
+    // It is just that of the entries in scope that plans of the filter leave open, up to the first past the size limit;
+    // plans are what the indexes tell of it, and where the indexes decide the filter nothing is left open.
     ensures counted { IfOk result (λ a. IsCountOf store.now (search_view request.now) a.tests) }
 {
     match request.scope {

@@ -61,7 +61,8 @@ impl Showing<'_> {
         ensures same { reader.new ≡ reader.old }
         ensures shown { IfOk result (λ e. found_view e ≡ record {
           object_name = printed_name self.now.schema.now (name_of (entry_at number reader.old.entries));
-          attributes = attributes_selected self.now.schema.now (selectors_of self.now.request.now) self.now.request.now.types_only (attributes_of entry.now);
+          attributes = attributes_selected self.now.schema.now (selectors_of self.now.request.now)
+              self.now.request.now.types_only (attributes_of entry.now);
         }) }
     {
         let object_name = reader.print_name(number)?;

@@ -88,10 +88,12 @@ fn addition_under(
     rdn: &[TypeAndValue],
     whole: Name,
 ) -> Result<Placed, StoreError>
-    ensures ok { IfOk result (λ p. addition_of schema.now (map attribute_view given.now) rdn.now whole ≡ Ok (placed_view p)) }
+    ensures ok { IfOk result (λ p. addition_of schema.now (map attribute_view given.now) rdn.now whole ≡
+        Ok (placed_view p)) }
     ensures name { IfOk result (λ p. p.name ≡ whole) }
     ensures keyed { IfOk result (λ p. IsKeyedBy schema.now p.entry) }
-    ensures refused { IfErr result (λ e. RefusedWith e (addition_of schema.now (map attribute_view given.now) rdn.now whole)) }
+    ensures refused { IfErr result (λ e. RefusedWith e (addition_of schema.now (map attribute_view given.now) rdn.now
+        whole)) }
 {
     match entry_asked(alloc, schema, rdn, given) {
         Ok(entry) => Ok(Placed { name: whole, entry }),
@@ -109,12 +111,14 @@ fn addition_at(
     name: &Name,
 ) -> Result<Placed, StoreError>
     requires keyed { AreKeyedBy schema.now tree.now.entries }
-    ensures ok { IfOk result (λ p. addition_that_stands (directory schema.now tree.now) (map attribute_view given.now) name.now ≡ Ok (placed_view p)) }
+    ensures ok { IfOk result (λ p. addition_that_stands (directory schema.now tree.now) (map attribute_view given.now)
+        name.now ≡ Ok (placed_view p)) }
     ensures absent { IfOk result (λ p. is_some (find (rdns p.name) tree.now.entries) ≡ false) }
     ensures placed { IfOk result (λ p. name_placed (rdns tree.now.suffix) p.name tree.now.entries ≡ p.name) }
     ensures footing { IfOk result (λ p. has_footing (rdns tree.now.suffix) (rdns p.name) tree.now.entries ≡ true) }
     ensures keyed { IfOk result (λ p. IsKeyedBy schema.now p.entry) }
-    ensures refused { IfErr result (λ e. RefusedWith e (addition_that_stands (directory schema.now tree.now) (map attribute_view given.now) name.now)) }
+    ensures refused { IfErr result (λ e. RefusedWith e (addition_that_stands (directory schema.now tree.now)
+        (map attribute_view given.now) name.now)) }
 {
     if is_taken(tree, name.rdns()) {
         return Err(StoreError::Refused(Reply::only(alloc, ResultCode::ENTRY_ALREADY_EXISTS)));
@@ -131,12 +135,14 @@ pub fn addition(
     request: &AddRequest,
 ) -> Result<Placed, StoreError>
     requires keyed { AreKeyedBy schema.now tree.now.entries }
-    ensures ok { IfOk result (λ p. addition_that_is_asked (directory schema.now tree.now) (add_view request.now) ≡ Ok (placed_view p)) }
+    ensures ok { IfOk result (λ p. addition_that_is_asked (directory schema.now tree.now) (add_view request.now) ≡
+        Ok (placed_view p)) }
     ensures absent { IfOk result (λ p. is_some (find (rdns p.name) tree.now.entries) ≡ false) }
     ensures placed { IfOk result (λ p. name_placed (rdns tree.now.suffix) p.name tree.now.entries ≡ p.name) }
     ensures footing { IfOk result (λ p. has_footing (rdns tree.now.suffix) (rdns p.name) tree.now.entries ≡ true) }
     ensures keyed { IfOk result (λ p. IsKeyedBy schema.now p.entry) }
-    ensures refused { IfErr result (λ e. RefusedWith e (addition_that_is_asked (directory schema.now tree.now) (add_view request.now))) }
+    ensures refused { IfErr result (λ e. RefusedWith e (addition_that_is_asked (directory schema.now tree.now)
+        (add_view request.now))) }
 {
     let name = asked_name(alloc, schema, &request.entry)?;
     addition_at(alloc, schema, tree, request.attributes.as_slice(), &name)

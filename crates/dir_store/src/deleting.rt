@@ -13,7 +13,8 @@ use entry_updates::ResultCode;
 use indexed_tree::{Rdn, Reply, Schema, Tree};
 use std::alloc::Global;
 
-/// The number of the entry that a delete takes out (RFC 4511 4.8): 32 where there is none, 66 where one stands below it.
+/// The number of the entry that a delete takes out (RFC 4511 4.8): 32 where there is none, 66 where one stands below
+/// it.
 #[tactic(auto, using(indexed_tree::proofs::Shown::below_shown))]
 pub fn asked_leaf(
     alloc: Global,

@@ -20,7 +20,8 @@ pub fn asked_entry<'a>(
     name: &[Rdn],
 ) -> Result<(u64, StoredEntry<'a>), StoreError>
     requires keyed { AreKeyedBy schema.now tree.now.entries }
-    ensures ok { IfOk result (λ p. entry_asked (directory schema.now tree.now) name.now ≡ Ok (named (entered_of p.0 p.1))) }
+    ensures ok { IfOk result (λ p. entry_asked (directory schema.now tree.now) name.now ≡
+        Ok (named (entered_of p.0 p.1))) }
     ensures found { IfOk result (λ p. find (rdns name.now) tree.now.entries ≡ Some (entered_of p.0 p.1)) }
     ensures own { IfOk result (λ p. find (rdns p.1.name) tree.now.entries ≡ Some (entered_of p.0 p.1)) }
     ensures same { IfOk result (λ p. rdns p.1.name ≡ rdns name.now) }

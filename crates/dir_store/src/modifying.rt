@@ -29,9 +29,11 @@ fn change(
     held: &StoredEntry<'_>,
 ) -> Result<ChangedEntry, StoreError>
     requires keyed { IsKeyedBy schema.now held.now.entry.now }
-    ensures ok { IfOk result (λ k. change_of schema.now (map change_view changes.now) (named (entered_of number held.now)) ≡ Ok (kept_view k)) }
+    ensures ok { IfOk result (λ k. change_of schema.now (map change_view changes.now)
+        (named (entered_of number held.now)) ≡ Ok (kept_view k)) }
     ensures keyed { IfOk result (λ k. IsKeyedBy schema.now k.entry) }
-    ensures refused { IfErr result (λ e. RefusedWith e (change_of schema.now (map change_view changes.now) (named (entered_of number held.now)))) }
+    ensures refused { IfErr result (λ e. RefusedWith e (change_of schema.now (map change_view changes.now)
+        (named (entered_of number held.now)))) }
 {
     match entry_changed(
         alloc,
@@ -53,9 +55,11 @@ pub fn asked_change(
     request: &ModifyRequest,
 ) -> Result<ChangedEntry, StoreError>
     requires keyed { AreKeyedBy schema.now tree.now.entries }
-    ensures ok { IfOk result (λ k. change_asked (directory schema.now tree.now) (modify_view request.now) ≡ Ok (kept_view k)) }
+    ensures ok { IfOk result (λ k. change_asked (directory schema.now tree.now) (modify_view request.now) ≡
+        Ok (kept_view k)) }
     ensures keyed { IfOk result (λ k. IsKeyedBy schema.now k.entry) }
-    ensures refused { IfErr result (λ e. RefusedWith e (change_asked (directory schema.now tree.now) (modify_view request.now))) }
+    ensures refused { IfErr result (λ e. RefusedWith e (change_asked (directory schema.now tree.now)
+        (modify_view request.now))) }
 {
     let name = asked_name(alloc, schema, &request.object)?;
     let (number, held) = asked_entry(alloc, schema, tree, name.rdns())?;

@@ -57,7 +57,8 @@ pub fn asked_superior(
     schema: &Schema,
     text: &Option<String>,
 ) -> Result<Option<Name>, StoreError>
-    ensures ok { IfOk result (λ n. superior_asked schema.now (option_map string_bytes text.now) ≡ Ok (option_map (λ x. x) n)) }
+    ensures ok { IfOk result (λ n. superior_asked schema.now (option_map string_bytes text.now) ≡
+        Ok (option_map (λ x. x) n)) }
     ensures refused { IfErr result (λ e. RefusedWith e (superior_asked schema.now (option_map string_bytes text.now))) }
 {
     match text {

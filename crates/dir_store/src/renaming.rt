@@ -116,9 +116,22 @@ impl<'a> Model for Move<'a> {
 
     ghost Value = { MoveAsked };
 
-    ghost view = { λ m. record { schema = m.schema.now; tree = m.tree.now; delete_old = m.delete_old; entry = entered_of m.number m.held.now; rdn = m.rdn.now } };
+    ghost view = { λ m. record {
+      schema = m.schema.now;
+      tree = m.tree.now;
+      delete_old = m.delete_old;
+      entry =
+          entered_of m.number m.held.now;
+      rdn = m.rdn.now;
+    } };
 
-    ghost invariant = { λ m. IsOfTree (record { schema = m.schema.now; tree = m.tree.now; delete_old = m.delete_old; entry = entered_of m.number m.held.now; rdn = m.rdn.now }) };
+    ghost invariant = { λ m. IsOfTree (record {
+      schema = m.schema.now;
+      tree = m.tree.now;
+      delete_old = m.delete_old;
+      entry = entered_of m.number m.held.now;
+      rdn = m.rdn.now;
+    }) };
 }
 
 impl Move<'_> {
@@ -127,11 +140,13 @@ impl Move<'_> {
     fn superior_name(&self, above: &Option<Name>) -> Result<Name, StoreError>
         requires root { name_eq (rdns self.now.entry.name) (rdns self.now.tree.suffix) ≡ false }
         requires outside { is_name_at_or_below self.now.entry.name above.now ≡ false }
-        ensures ok { IfOk result (λ n. superior_of (directory self.now.schema self.now.tree) self.now.entry.name above.now ≡ Ok n) }
+        ensures ok { IfOk result (λ n. superior_of (directory self.now.schema self.now.tree) self.now.entry.name
+            above.now ≡ Ok n) }
         ensures stands { IfOk result (λ n. is_some (find (rdns n) self.now.tree.entries) ≡ true) }
         ensures spelled { IfOk result (λ n. option_map (λ e. e.name) (find (rdns n) self.now.tree.entries) ≡ Some n) }
         ensures apart { IfOk result (λ n. begins (rdns self.now.entry.name) (rdns n) ≡ false) }
-        ensures refused { IfErr result (λ e. RefusedWith e (superior_of (directory self.now.schema self.now.tree) self.now.entry.name above.now)) }
+        ensures refused { IfErr result (λ e. RefusedWith e (superior_of (directory self.now.schema self.now.tree)
+            self.now.entry.name above.now)) }
     {
         self.tree.is_directory();
         self.tree.is_spelled();
@@ -147,12 +162,14 @@ impl Move<'_> {
 
     /// The entry under a name: what its attributes are refused for.
     fn moved_under(&self, after: Name) -> Result<Moved, StoreError>
-        ensures ok { IfOk result (λ m. moved_entry self.now.schema self.now.delete_old (named self.now.entry) self.now.rdn after ≡ Ok (moved_view m)) }
+        ensures ok { IfOk result (λ m. moved_entry self.now.schema self.now.delete_old (named self.now.entry)
+            self.now.rdn after ≡ Ok (moved_view m)) }
         ensures keyed { IfOk result (λ m. IsKeyedBy self.now.schema m.entry) }
         ensures number { IfOk result (λ m. m.number ≡ self.now.entry.number) }
         ensures before { IfOk result (λ m. m.before ≡ self.now.entry.name) }
         ensures after { IfOk result (λ m. m.after ≡ after) }
-        ensures refused { IfErr result (λ e. RefusedWith e (moved_entry self.now.schema self.now.delete_old (named self.now.entry) self.now.rdn after)) }
+        ensures refused { IfErr result (λ e. RefusedWith e (moved_entry self.now.schema self.now.delete_old
+            (named self.now.entry) self.now.rdn after)) }
     {
         match entry_renamed(
             self.alloc,
@@ -174,13 +191,16 @@ impl Move<'_> {
 
     /// The entry under a name that no other entry has: 68, then what its attributes are refused for.
     fn moved_to(&self, after: Name) -> Result<Moved, StoreError>
-        ensures ok { IfOk result (λ m. move_to (directory self.now.schema self.now.tree) self.now.delete_old (named self.now.entry) self.now.rdn after ≡ Ok (moved_view m)) }
+        ensures ok { IfOk result (λ m. move_to (directory self.now.schema self.now.tree) self.now.delete_old
+            (named self.now.entry) self.now.rdn after ≡ Ok (moved_view m)) }
         ensures keyed { IfOk result (λ m. IsKeyedBy self.now.schema m.entry) }
         ensures number { IfOk result (λ m. m.number ≡ self.now.entry.number) }
         ensures before { IfOk result (λ m. m.before ≡ self.now.entry.name) }
         ensures after { IfOk result (λ m. m.after ≡ after) }
-        ensures fresh { OnOk result (is_other_than self.now.entry.number (entry_named (rdns after) (map named self.now.tree.entries)) ≡ false) }
-        ensures refused { IfErr result (λ e. RefusedWith e (move_to (directory self.now.schema self.now.tree) self.now.delete_old (named self.now.entry) self.now.rdn after)) }
+        ensures fresh { OnOk result (is_other_than self.now.entry.number
+            (entry_named (rdns after) (map named self.now.tree.entries)) ≡ false) }
+        ensures refused { IfErr result (λ e. RefusedWith e (move_to (directory self.now.schema self.now.tree)
+            self.now.delete_old (named self.now.entry) self.now.rdn after)) }
     {
         if is_taken_by_other(self.tree, self.number, after.rdns()) {
             return Err(StoreError::Refused(Reply::only(
@@ -194,11 +214,14 @@ impl Move<'_> {
     /// The entry under its new name: 53, 32 of the new superior, 68, then what its attributes are refused for.
     #[tactic(auto, using(crate::proofs::Moves::free_of, crate::proofs::Moves::above_last, crate::proofs::Spelled::spelled_placed))]
     fn moved(&self, above: &Option<Name>) -> Result<Moved, StoreError>
-        ensures ok { IfOk result (λ m. move_under (directory self.now.schema self.now.tree) self.now.delete_old (named self.now.entry) self.now.rdn above.now ≡ Ok (moved_view m)) }
+        ensures ok { IfOk result (λ m. move_under (directory self.now.schema self.now.tree) self.now.delete_old
+            (named self.now.entry) self.now.rdn above.now ≡ Ok (moved_view m)) }
         ensures keyed { IfOk result (λ m. IsKeyedBy self.now.schema m.entry) }
         ensures may { IfOk result (λ m. MayMove self.now.tree m.number (rdns m.before) (rdns m.after)) }
-        ensures placed { IfOk result (λ m. name_placed (rdns self.now.tree.suffix) m.after self.now.tree.entries ≡ m.after) }
-        ensures refused { IfErr result (λ e. RefusedWith e (move_under (directory self.now.schema self.now.tree) self.now.delete_old (named self.now.entry) self.now.rdn above.now)) }
+        ensures placed { IfOk result (λ m. name_placed (rdns self.now.tree.suffix) m.after self.now.tree.entries ≡
+            m.after) }
+        ensures refused { IfErr result (λ e. RefusedWith e (move_under (directory self.now.schema self.now.tree)
+            self.now.delete_old (named self.now.entry) self.now.rdn above.now)) }
     {
         self.tree.is_directory();
         self.tree.is_placed_as_spelled();
@@ -214,8 +237,8 @@ impl Move<'_> {
     }
 }
 
-/// What a modifyDN asks for (RFC 4511 4.9): 34 of its three names, 32, 53, 32 of the new superior, 68, then what the attributes are
-/// refused for.
+/// What a modifyDN asks for (RFC 4511 4.9): 34 of its three names, 32, 53, 32 of the new superior, 68, then what the
+/// attributes are refused for.
 pub fn asked_move(
     alloc: Global,
     schema: &Schema,
@@ -223,11 +246,13 @@ pub fn asked_move(
     request: &ModifyDnRequest,
 ) -> Result<Moved, StoreError>
     requires keyed { AreKeyedBy schema.now tree.now.entries }
-    ensures ok { IfOk result (λ m. move_that_is_asked (directory schema.now tree.now) (modify_dn_view request.now) ≡ Ok (moved_view m)) }
+    ensures ok { IfOk result (λ m. move_that_is_asked (directory schema.now tree.now) (modify_dn_view request.now) ≡
+        Ok (moved_view m)) }
     ensures keyed { IfOk result (λ m. IsKeyedBy schema.now m.entry) }
     ensures may { IfOk result (λ m. MayMove tree.now m.number (rdns m.before) (rdns m.after)) }
     ensures placed { IfOk result (λ m. name_placed (rdns tree.now.suffix) m.after tree.now.entries ≡ m.after) }
-    ensures refused { IfErr result (λ e. RefusedWith e (move_that_is_asked (directory schema.now tree.now) (modify_dn_view request.now))) }
+    ensures refused { IfErr result (λ e. RefusedWith e (move_that_is_asked (directory schema.now tree.now)
+        (modify_dn_view request.now))) }
 {
     let MoveNames { name, rdn, above } = asked_names(alloc, schema, request)?;
     let (number, held) = asked_entry(alloc, schema, tree, name.rdns())?;

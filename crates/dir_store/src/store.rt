@@ -21,8 +21,8 @@ use std::alloc::{AllocError, Global};
 use std::marker::Model;
 use std::sync::Arc;
 
-/// The directory under one schema: entries, each with the number of the update that added it, at and below one name; and the index choice under
-/// which they are listed.
+/// The directory under one schema: entries, each with the number of the update that added it, at and below one name;
+/// and the index choice under which they are listed.
 pub struct Store {
     schema: Arc<Schema>,
     held: IndexedTree,
@@ -51,7 +51,10 @@ impl Model for Store {
 impl Store {
     /// A directory without entries, whose root is to have this name. The schema is shared with whoever else has it.
     pub fn new(alloc: Global, schema: Arc<Schema>, indexes: Indexes, suffix: Name) -> Store
-        ensures { result ≡ record { directory = record { schema = arc_value schema; suffix = suffix; entries = [] }; indexes = indexes } }
+        ensures { result ≡ record {
+          directory = record { schema = arc_value schema; suffix = suffix; entries = [] };
+          indexes = indexes;
+        } }
     {
         Store {
             schema,
@@ -90,8 +93,8 @@ impl Store {
         Reading::new(&self.schema, &self.held)
     }
 
-    /// Makes an update under a number above those of all entries (RFC 4511 4.6 to 4.9), or refuses it with the reply of the first check
-    /// that fails. A refusal and want of memory, the only error, leave the directory as it was.
+    /// Makes an update under a number above those of all entries (RFC 4511 4.6 to 4.9), or refuses it with the reply of
+    /// the first check that fails. A refusal and want of memory, the only error, leave the directory as it was.
     pub fn apply(&mut self, alloc: Global, number: u64, op: &Op) -> Result<Reply, AllocError>
         requires above { NumbersBelow number self.old.directory.entries }
         ensures directory { IfOk result (λ reply. self.new.directory ≡ applied self.old.directory number op.now) }
@@ -110,11 +113,13 @@ impl Store {
     /// Makes an update, or refuses it and changes nothing.
     fn update(&mut self, alloc: Global, number: u64, update: &Update) -> Result<(), StoreError>
         requires above { NumbersBelow number self.old.directory.entries }
-        ensures ok { OnOk result (updated self.old.directory number (update_view update.now) ≡ Ok self.new.directory.entries) }
+        ensures ok { OnOk result (updated self.old.directory number (update_view update.now) ≡
+            Ok self.new.directory.entries) }
         ensures schema { self.new.directory.schema ≡ self.old.directory.schema }
         ensures suffix { self.new.directory.suffix ≡ self.old.directory.suffix }
         ensures indexes { self.new.indexes ≡ self.old.indexes }
-        ensures refused { IfErr result (λ e. RefusedWith e (updated self.old.directory number (update_view update.now))) }
+        ensures refused { IfErr result
+            (λ e. RefusedWith e (updated self.old.directory number (update_view update.now))) }
         ensures err { OnErr result (self.new ≡ self.old) }
     {
         match update {
@@ -130,7 +135,8 @@ impl Store {
     #[tactic(auto, using(indexed_tree::proofs::Shown::numbers_shown, indexed_tree::proofs::Shown::pushed_shown, indexed_tree::proofs::Shown::keyed_push))]
     fn add(&mut self, alloc: Global, number: u64, request: &AddRequest) -> Result<(), StoreError>
         requires above { NumbersBelow number self.old.directory.entries }
-        ensures ok { OnOk result (added self.old.directory number (add_view request.now) ≡ Ok self.new.directory.entries) }
+        ensures ok { OnOk result (added self.old.directory number (add_view request.now) ≡
+            Ok self.new.directory.entries) }
         ensures schema { self.new.directory.schema ≡ self.old.directory.schema }
         ensures suffix { self.new.directory.suffix ≡ self.old.directory.suffix }
         ensures indexes { self.new.indexes ≡ self.old.indexes }
@@ -162,7 +168,8 @@ impl Store {
     /// Changes an entry's attributes, or refuses it and changes nothing.
     #[tactic(auto, using(indexed_tree::proofs::Shown::replaced_shown, indexed_tree::proofs::Shown::keyed_replaced))]
     fn modify(&mut self, alloc: Global, request: &ModifyRequest) -> Result<(), StoreError>
-        ensures ok { OnOk result (modified self.old.directory (modify_view request.now) ≡ Ok self.new.directory.entries) }
+        ensures ok { OnOk result (modified self.old.directory (modify_view request.now) ≡
+            Ok self.new.directory.entries) }
         ensures schema { self.new.directory.schema ≡ self.old.directory.schema }
         ensures suffix { self.new.directory.suffix ≡ self.old.directory.suffix }
         ensures indexes { self.new.indexes ≡ self.old.indexes }
@@ -183,11 +190,13 @@ impl Store {
     /// Gives an entry, and those below it, other names, or refuses it and changes nothing.
     #[tactic(auto, using(crate::proofs::Spelled::moved_placed, indexed_tree::proofs::Shown::keyed_moved))]
     fn rename(&mut self, alloc: Global, request: &ModifyDnRequest) -> Result<(), StoreError>
-        ensures ok { OnOk result (renamed_all self.old.directory (modify_dn_view request.now) ≡ Ok self.new.directory.entries) }
+        ensures ok { OnOk result (renamed_all self.old.directory (modify_dn_view request.now) ≡
+            Ok self.new.directory.entries) }
         ensures schema { self.new.directory.schema ≡ self.old.directory.schema }
         ensures suffix { self.new.directory.suffix ≡ self.old.directory.suffix }
         ensures indexes { self.new.indexes ≡ self.old.indexes }
-        ensures refused { IfErr result (λ e. RefusedWith e (renamed_all self.old.directory (modify_dn_view request.now))) }
+        ensures refused { IfErr result
+            (λ e. RefusedWith e (renamed_all self.old.directory (modify_dn_view request.now))) }
         ensures err { OnErr result (self.new ≡ self.old) }
     {
         let Moved {

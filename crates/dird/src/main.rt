@@ -19,7 +19,8 @@ use words::system_words;
 const UNPROVED: &str =
     "unproved build: the same sources, their proofs not checked; ./prove checks them and builds the proved program\n";
 
-/// How long it is waited for that standard error takes what is told at the end, in milliseconds: a program that has ended stays for nobody who doesn't read.
+/// How long it is waited for that standard error takes what is told at the end, in milliseconds: a program that has
+/// ended stays for nobody who doesn't read.
 const FAREWELL: i32 = 1_000;
 
 /// Tells what went wrong, where somebody reads it.

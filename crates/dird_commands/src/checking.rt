@@ -1,4 +1,5 @@
-//! Checks an LDIF file before it is served: prints each record that a directory would refuse, with its line, its result code and the reason.
+//! Checks an LDIF file before it is served: prints each record that a directory would refuse, with its line, its result
+//! code and the reason.
 ghost use Rattle.std.specs.Prelude.{◌≡◌, IfOk, IfErr};
 ghost use Rattle.std.specs.Arc.{arc_value};
 ghost use Rattle.dird_commands.specs.Begun.{empty_under};
@@ -88,7 +89,8 @@ fn check_records(
     text: &[u8],
 ) -> Result<Checked, Refusal>
     ensures err { IfErr result (λ refusal. IsCheckCause refusal.fault text.now) }
-    ensures ok { IfOk result (λ c. IsChecked (empty_under (arc_value empty.now.schema) empty.now.suffix) text.now c.count c.refused.items) }
+    ensures ok { IfOk result (λ c. IsChecked (empty_under (arc_value empty.now.schema) empty.now.suffix) text.now
+        c.count c.refused.items) }
 {
     let store = empty.store(alloc)?;
     match check_text(alloc, store, text) {
@@ -97,7 +99,8 @@ fn check_records(
     }
 }
 
-/// Prints what a directory without entries refuses of the text of a file of this name; the status says whether it refuses anything.
+/// Prints what a directory without entries refuses of the text of a file of this name; the status says whether it
+/// refuses anything.
 pub fn check_file<W: Write>(
     alloc: Global,
     empty: &EmptyDirectory,
@@ -107,7 +110,8 @@ pub fn check_file<W: Write>(
 ) -> Result<ExitStatus, Refusal>
     ensures ok { IfOk result (λ s. IsVerdict (empty_under (arc_value empty.now.schema) empty.now.suffix) text.now s) }
     // Nothing is written but where the output can't be written; which refusal it is.
-    ensures err { IfErr result (λ refusal. IsUnchecked refusal.fault text.now (W.contents output.old) (W.contents output.new)) }
+    ensures err { IfErr result (λ refusal. IsUnchecked refusal.fault text.now (W.contents output.old)
+        (W.contents output.new)) }
 {
     let checked = match check_records(alloc, empty, path, text) {
         Ok(checked) => checked,

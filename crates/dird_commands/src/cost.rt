@@ -1,5 +1,5 @@
-//! Shows what a search costs, in place of its entries: for its filter, and for each item of it alone, how many entries it shows and on how many it is
-//! evaluated. An item that is evaluated on none is decided by an index.
+//! Shows what a search costs, in place of its entries: for its filter, and for each item of it alone, how many entries
+//! it shows and on how many it is evaluated. An item that is evaluated on none is decided by an index.
 use crate::explaining::search_refusal;
 use crate::fault::Fault;
 use crate::opening::EmptyDirectory;
@@ -112,7 +112,8 @@ fn write_cost<W: Write>(
     }
 }
 
-/// Shows what the search of a question costs over the records of the input, and beneath it each item of its filter alone.
+/// Shows what the search of a question costs over the records of the input, and beneath it each item of its filter
+/// alone.
 pub fn explain_input<R: BufRead, W: Write>(
     alloc: Global,
     empty: &EmptyDirectory,

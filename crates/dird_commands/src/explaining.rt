@@ -323,7 +323,8 @@ pub fn session_refusal(alloc: Global, fault: Fault) -> Refusal
     Refusal::with_explanation(fault, told)
 }
 
-/// The fault of a session over a directory of this schema: of its lines, or of the names that the directory begins with.
+/// The fault of a session over a directory of this schema: of its lines, or of the names that the directory begins
+/// with.
 pub fn opening_refusal(alloc: Global, schema: &Schema, fault: Fault) -> Refusal
     ensures { result.fault ≡ fault }
 {

@@ -11,7 +11,8 @@ use schema_reader::SchemaError;
 use std::alloc::{AllocError, AllocFailed};
 use thiserror::Error;
 
-/// Why a job stopped; each ends the run with status 1. A refusal without a text of its own prints its number, and the line or the place that it is of.
+/// Why a job stopped; each ends the run with status 1. A refusal without a text of its own prints its number, and the
+/// line or the place that it is of.
 #[derive(Clone, Copy, Debug, Error)]
 pub enum Fault {
     #[error("E{number} {place}")]

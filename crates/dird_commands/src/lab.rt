@@ -20,7 +20,8 @@ use std::io::{BufRead, Write};
 use std::sync::Arc;
 
 #[tactic(auto, using(crate::proofs::Playing::turned))]
-/// Plays a script over replicas with this schema and these indexes, once it is read whole: a line that isn't in the language refuses all of it.
+/// Plays a script over replicas with this schema and these indexes, once it is read whole: a line that isn't in the
+/// language refuses all of it.
 pub fn play_script<R: BufRead, W: Write>(
     alloc: Global,
     schema: Arc<Schema>,
@@ -73,7 +74,8 @@ fn replies_of<R: BufRead>(
 
 /// All lines, without their ends. The 18446744073709551615th counts as one that can't be read.
 fn read_lines<R: BufRead>(alloc: Global, input: &mut R) -> Result<Vec<Vec<u8>>, Fault>
-    ensures ok { IfOk result (λ v. IfSome (R.remaining input.old) (λ text. AreLines text (map (λ line. line.items) v.items))) }
+    ensures ok { IfOk result (λ v. IfSome (R.remaining input.old)
+        (λ text. AreLines text (map (λ line. line.items) v.items))) }
     ensures err { IfErr result IsUnread }
 {
     let mut lines = Vec::new(alloc);

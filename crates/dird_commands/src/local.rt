@@ -101,9 +101,11 @@ fn answer_over<R: BufRead, W: Write>(
     input: &mut R,
     output: &mut W,
 ) -> Result<SessionEnd, Fault>
-    ensures ok { IfOk result (λ end. Answers allows (config_of schema.now) directory.old directory.new (R.remaining input.old) (R.remaining input.new)
+    ensures ok { IfOk result (λ end. Answers allows (config_of schema.now) directory.old directory.new
+        (R.remaining input.old) (R.remaining input.new)
         (W.contents output.old) (W.contents output.new) end) }
-    ensures err { IfErr result (λ fault. IsCutFrom (config_of schema.now) directory.old directory.new (R.remaining input.old)
+    ensures err { IfErr result (λ fault. IsCutFrom (config_of schema.now) directory.old directory.new
+        (R.remaining input.old)
         (W.contents output.old) (W.contents output.new) fault) }
 {
     let manager = manager_name(alloc, schema)?;
@@ -121,15 +123,18 @@ fn answer_over<R: BufRead, W: Write>(
     }
 }
 
-/// One session over a directory of its own: each line of the input is a piece of the stream in hex, each response a line of the output.
+/// One session over a directory of its own: each line of the input is a piece of the stream in hex, each response a
+/// line of the output.
 pub fn answer_session<R: BufRead, W: Write>(
     alloc: Global,
     options: Options,
     input: &mut R,
     output: &mut W,
 ) -> Result<SessionEnd, Fault>
-    // The output grows by the responses of a session over the stream that the lines spell, along a talk with the directory that begins so.
-    ensures ok { IfOk result (λ end. AnswersFrom (arc_value options.schema) options.sample (R.remaining input.old) (R.remaining input.new)
+    // The output grows by the responses of a session over the stream that the lines spell, along a talk with the
+    // directory that begins so.
+    ensures ok { IfOk result (λ end. AnswersFrom (arc_value options.schema) options.sample (R.remaining input.old)
+        (R.remaining input.new)
         (W.contents output.old) (W.contents output.new) end) }
     // At a fault it has written nothing, where it did not begin, or what such a session has written by then.
     ensures err { IfErr result (λ fault. FailsFrom (arc_value options.schema) options.sample (R.remaining input.old)

@@ -56,7 +56,8 @@ fn told_text(text: &Option<String>) -> &str {
     }
 }
 
-/// The schema of the text of a named file, and the built-in one for no name. It is read once, and shared by all who need it.
+/// The schema of the text of a named file, and the built-in one for no name. It is read once, and shared by all who
+/// need it.
 pub fn schema_told(
     alloc: Global,
     path: Option<&str>,

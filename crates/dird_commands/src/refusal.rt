@@ -1,4 +1,5 @@
-//! What a run that is refused tells: the fault in one line, and a second line that says what to mend, in which file, word or line.
+//! What a run that is refused tells: the fault in one line, and a second line that says what to mend, in which file,
+//! word or line.
 
 ghost use Rattle.std.specs.Prelude.{◌≡◌};
 ghost use Rattle.dird_commands.specs.declared.fault.Fault.TheVariants.{NoMemory};

@@ -10,7 +10,8 @@ use std::io::Write;
 
 /// Writes what a lab shows, in order.
 pub fn write_replies<W: Write>(replies: &[LabReply], output: &mut W) -> std::io::Result<()>
-    ensures { OnOk result (Appends (W.contents output.old) (W.contents output.new) (flat_map text_of (map shown_view replies.now))) }
+    ensures { OnOk result (Appends (W.contents output.old) (W.contents output.new)
+        (flat_map text_of (map shown_view replies.now))) }
 {
     for reply in replies {
         write_reply(reply, output)?;
@@ -47,14 +48,16 @@ fn write_reply<W: Write>(reply: &LabReply, output: &mut W) -> std::io::Result<()
 
 /// Writes that a replica hasn't come so far yet.
 fn write_not_yet<W: Write>(at: u64, output: &mut W) -> std::io::Result<()>
-    ensures { OnOk result (Appends (W.contents output.old) (W.contents output.new) (line_of (codes "notyet at=" ++ decimal at))) }
+    ensures { OnOk result (Appends (W.contents output.old) (W.contents output.new)
+        (line_of (codes "notyet at=" ++ decimal at))) }
 {
     writeln!(output, "notyet at={at}")
 }
 
 /// Writes that a replica is down.
 fn write_down<W: Write>(replica: u64, output: &mut W) -> std::io::Result<()>
-    ensures { OnOk result (Appends (W.contents output.old) (W.contents output.new) (line_of (codes "state replica=" ++ decimal replica ++ codes " down"))) }
+    ensures { OnOk result (Appends (W.contents output.old) (W.contents output.new)
+        (line_of (codes "state replica=" ++ decimal replica ++ codes " down"))) }
 {
     writeln!(output, "state replica={replica} down")
 }
@@ -68,7 +71,8 @@ fn write_state<W: Write>(
     commit: u64,
     output: &mut W,
 ) -> std::io::Result<()>
-    ensures { OnOk result (Appends (W.contents output.old) (W.contents output.new) (state_line replica view status op commit)) }
+    ensures { OnOk result (Appends (W.contents output.old) (W.contents output.new) (state_line replica view status op
+        commit)) }
 {
     let status = status_word(status);
     writeln!(
@@ -104,7 +108,8 @@ fn write_entry<W: Write>(name: &str, output: &mut W) -> std::io::Result<()>
 
 /// Writes the answer of a search: its code and how many entries it has, and then the name of each.
 fn write_answer<W: Write>(at: u64, answer: &SearchAnswer, output: &mut W) -> std::io::Result<()>
-    ensures { OnOk result (Appends (W.contents output.old) (W.contents output.new) (answer_text at (answer_view answer.now))) }
+    ensures { OnOk result (Appends (W.contents output.old) (W.contents output.new)
+        (answer_text at (answer_view answer.now))) }
 {
     let entries = answer.entries.as_slice();
     write_answered(at, answer.code.number(), entries.len(), output)?;

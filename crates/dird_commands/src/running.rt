@@ -22,7 +22,8 @@ use std::sync::Arc;
 pub enum RunOutcome<'a> {
     /// It has ended.
     Ended(ExitStatus),
-    /// It asks for a replica that serves this, until it is stopped. `listening ADDR` goes to the output once clients are heard.
+    /// It asks for a replica that serves this, until it is stopped. `listening ADDR` goes to the output once clients
+    /// are heard.
     Serves(Service<'a>),
 }
 
@@ -149,7 +150,8 @@ fn answer<'a, S: ReadFiles, R: BufRead, W: Write>(
     }
 }
 
-/// One search of the directory of the input's records, once the schema, the index choice and the suffix are read; or what it costs.
+/// One search of the directory of the input's records, once the schema, the index choice and the suffix are read; or
+/// what it costs.
 fn search<S: ReadFiles, R: BufRead, W: Write>(
     system: &S,
     alloc: Global,

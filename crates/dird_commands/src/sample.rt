@@ -122,7 +122,8 @@ fn an_na(alloc: Global) -> Result<AddRequest, AllocError>
 /// Adds an entry under a number above all, as far as the schema lets it.
 fn add(alloc: Global, store: &mut Store, number: u64, request: AddRequest) -> Result<(), Fault>
     requires above { NumbersBelow number store.old.directory.entries }
-    ensures applied { OnOk result (store.new.directory ≡ applied store.old.directory number (add_op (add_view request))) }
+    ensures applied { OnOk result (store.new.directory ≡ applied store.old.directory number
+        (add_op (add_view request))) }
     ensures indexes { store.new.indexes ≡ store.old.indexes }
     ensures below { OnOk result (NumbersBelow (number + 1) store.new.directory.entries) }
 {
@@ -134,7 +135,8 @@ fn add(alloc: Global, store: &mut Store, number: u64, request: AddRequest) -> Re
 /// Adds what stands above the items, as operations 1 and 2.
 fn add_upper(alloc: Global, store: &mut Store) -> Result<(), Fault>
     requires empty { NumbersBelow 1 store.old.directory.entries }
-    ensures applied { OnOk result (store.new.directory ≡ applied (applied store.old.directory 1 (add_op sample.example)) 2 (add_op sample.items_unit)) }
+    ensures applied { OnOk result (store.new.directory ≡
+        applied (applied store.old.directory 1 (add_op sample.example)) 2 (add_op sample.items_unit)) }
     ensures indexes { store.new.indexes ≡ store.old.indexes }
     ensures below { OnOk result (NumbersBelow 3 store.new.directory.entries) }
 {
@@ -145,7 +147,8 @@ fn add_upper(alloc: Global, store: &mut Store) -> Result<(), Fault>
 /// Adds two items, as operations 3 and 4.
 fn add_first_items(alloc: Global, store: &mut Store) -> Result<(), Fault>
     requires below { NumbersBelow 3 store.old.directory.entries }
-    ensures applied { OnOk result (store.new.directory ≡ applied (applied store.old.directory 3 (add_op sample.ana)) 4 (add_op sample.anna)) }
+    ensures applied { OnOk result (store.new.directory ≡ applied (applied store.old.directory 3 (add_op sample.ana)) 4
+        (add_op sample.anna)) }
     ensures indexes { store.new.indexes ≡ store.old.indexes }
     ensures below { OnOk result (NumbersBelow 5 store.new.directory.entries) }
 {
@@ -156,7 +159,8 @@ fn add_first_items(alloc: Global, store: &mut Store) -> Result<(), Fault>
 /// Adds the other two, as operations 5 and 6.
 fn add_last_items(alloc: Global, store: &mut Store) -> Result<(), Fault>
     requires below { NumbersBelow 5 store.old.directory.entries }
-    ensures applied { OnOk result (store.new.directory ≡ applied (applied store.old.directory 5 (add_op sample.anana)) 6 (add_op sample.an_na)) }
+    ensures applied { OnOk result (store.new.directory ≡ applied (applied store.old.directory 5 (add_op sample.anana))
+        6 (add_op sample.an_na)) }
     ensures indexes { store.new.indexes ≡ store.old.indexes }
     ensures below { OnOk result (NumbersBelow 7 store.new.directory.entries) }
 {

@@ -69,7 +69,8 @@ fn password_of<S: ReadFiles>(
     }
 }
 
-/// What these words ask to be served. The schema is read first, then the index choice, the suffix, the manager's name and the password.
+/// What these words ask to be served. The schema is read first, then the index choice, the suffix, the manager's name
+/// and the password.
 pub fn service_of<'a, S: ReadFiles>(
     files: &S,
     alloc: Global,

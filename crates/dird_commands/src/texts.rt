@@ -1,4 +1,5 @@
-//! Jobs on whole texts: an input is read to its end, what is made of it is written. What is made of a text is decided below.
+//! Jobs on whole texts: an input is read to its end, what is made of it is written. What is made of a text is decided
+//! below.
 ghost use Rattle.std.specs.Prelude.{◌≡◌, map, string_bytes, IfOk, IfErr, IfSome, OnOk};
 ghost use Rattle.std.specs.Io.KnownBytes.{Appends};
 ghost use Rattle.local_directory.specs.ldap_msg.View.{search_view};
@@ -139,7 +140,8 @@ fn copy_words(alloc: Global, words: &[&str]) -> Result<Vec<String>, AllocError>
 /// The search request of a question, without limits.
 fn request_of(alloc: Global, question: &Question<'_>) -> Result<SearchRequest, Fault>
     ensures err { IfErr result (λ fault. IsUnasked question.now.filter.now fault) }
-    ensures ok { IfOk result (λ r. IsRequestOf question.now.base.now question.now.scope question.now.filter.now (map (λ w. w.now) question.now.attributes.items) (search_view r)) }
+    ensures ok { IfOk result (λ r. IsRequestOf question.now.base.now question.now.scope question.now.filter.now
+        (map (λ w. w.now) question.now.attributes.items) (search_view r)) }
 {
     let filter = read_text(alloc, question.filter)?;
     Ok(SearchRequest {
@@ -157,7 +159,8 @@ fn request_of(alloc: Global, question: &Question<'_>) -> Result<SearchRequest, F
 /// The search request of a question, whose filter is explained where it is refused.
 pub fn read_question(alloc: Global, question: &Question<'_>) -> Result<SearchRequest, Refusal>
     ensures err { IfErr result (λ refusal. IsUnasked question.now.filter.now refusal.fault) }
-    ensures ok { IfOk result (λ r. IsRequestOf question.now.base.now question.now.scope question.now.filter.now (map (λ w. w.now) question.now.attributes.items) (search_view r)) }
+    ensures ok { IfOk result (λ r. IsRequestOf question.now.base.now question.now.scope question.now.filter.now
+        (map (λ w. w.now) question.now.attributes.items) (search_view r)) }
 {
     match request_of(alloc, question) {
         Ok(request) => Ok(request),
@@ -195,7 +198,8 @@ fn answer_of<R: BufRead>(
     input: &mut R,
 ) -> Result<Vec<u8>, Refusal>
     ensures ok { IfOk result (λ v. IfSome (R.remaining input.old)
-        (λ text. IsSearched (empty_under (arc_value empty.now.schema) empty.now.suffix) text (search_view request.now) v.items)) }
+        (λ text. IsSearched (empty_under (arc_value empty.now.schema) empty.now.suffix) text (search_view request.now)
+        v.items)) }
     ensures err { IfErr result (λ refusal. IsUnmade
         (IsFoundCause (empty_under (arc_value empty.now.schema) empty.now.suffix) (search_view request.now))
         refusal.fault (R.remaining input.old)) }
@@ -221,7 +225,8 @@ pub fn search_input<R: BufRead, W: Write>(
         (R.remaining input.old) (W.contents output.old) (W.contents output.new)) }
     // Nothing is written but where the output can't be written; which refusal it is.
     ensures err { IfErr result (λ refusal. IsUnanswered (empty_under (arc_value empty.now.schema) empty.now.suffix)
-        question.now.base.now question.now.scope question.now.filter.now (map (λ w. w.now) question.now.attributes.items)
+        question.now.base.now question.now.scope question.now.filter.now
+        (map (λ w. w.now) question.now.attributes.items)
         refusal.fault (R.remaining input.old) (W.contents output.old) (W.contents output.new)) }
 {
     let request = match read_question(alloc, question) {

@@ -2,7 +2,8 @@
 ghost use Rattle.std.specs.Prelude.{◌≡◌, ◌+◌, ◌-◌, ◌≤◌, ◌++◌, IsTrue, length, min, take, drop};
 ghost use Rattle.file_device.specs.private.Pieces.{octets_in};
 
-/// Copies octets from a place on into the buffer behind those that are done, as many as there are or find room; how many.
+/// Copies octets from a place on into the buffer behind those that are done, as many as there are or find room; how
+/// many.
 fn copy_behind(octets: &[u8], from: usize, buffer: &mut [u8], done: usize) -> usize
     requires from { from ≤ length octets.now }
     requires done { done ≤ length buffer.old }

@@ -26,7 +26,8 @@ impl Device for FileDevice {
 
     ghost failure_count = { λ f. f.failures };
 
-    ghost counts_now = { λ f t c le left. replay.counts_now f.known.history.base (view_events f.known.history) t c le left };
+    ghost counts_now = { λ f t c le left. replay.counts_now f.known.history.base (view_events f.known.history) t c le
+        left };
 
     ghost only_now = { λ f c left. replay.only_now f.known.history.base (view_events f.known.history) c left };
 
@@ -99,7 +100,10 @@ impl FileDevice {
         requires within { at ≤ length self.old.image.items }
         requires next { Holds self.old.image.items at octets.now next.items }
         ensures image { self.new.image ≡ next }
-        ensures known { self.new.known.history ≡ record self.old.known.history { events = write at octets.now true ∷ self.old.known.history.events } }
+        ensures known { self.new.known.history ≡ record self.old.known.history {
+          events = write at octets.now
+              true ∷ self.old.known.history.events;
+        } }
         ensures failures { self.new.failures ≡ self.old.failures }
     {
         let FileDevice {

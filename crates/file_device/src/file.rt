@@ -27,7 +27,8 @@ const ALONE: u8 = 2;
 
 const JOURNALED: u8 = 3;
 
-/// The first slot of a stored view as its first store writes it: an open gate, the version, the sequence 1, view 0, one restart, the cluster.
+/// The first slot of a stored view as its first store writes it: an open gate, the version, the sequence 1, view 0, one
+/// restart, the cluster.
 fn first_slot(version: u8, cluster: Cluster) -> [u8; 32]
     ensures { result ≡ first_slot version cluster }
 {
@@ -38,10 +39,11 @@ fn first_slot(version: u8, cluster: Cluster) -> [u8; 32]
     ]
 }
 
-/// A file as a device. Every octet that was read or written is kept beside it, and a read or a length that the file answers otherwise is a
-/// failure. What a crash leaves of it is said by the rules of a device: each call of the system that writes or syncs is noted beside it, and that the
-/// system and the disk keep these rules is assumed. A sync hands the octets to the operating system's own sync of the file; the folder of
-/// a file without octets is synced when that is opened, so that a file that was made is found again.
+/// A file as a device. Every octet that was read or written is kept beside it, and a read or a length that the file
+/// answers otherwise is a failure. What a crash leaves of it is said by the rules of a device: each call of the system
+/// that writes or syncs is noted beside it, and that the system and the disk keep these rules is assumed. A sync hands
+/// the octets to the operating system's own sync of the file; the folder of a file without octets is synced when that
+/// is opened, so that a file that was made is found again.
 pub struct FileDevice {
     pub(crate) alloc: Global,
     pub(crate) file: File,
@@ -68,15 +70,16 @@ impl Drop for FileDevice {
 }
 
 impl FileDevice {
-    /// Opens a regular file; where there is none, it is made, if it may be. It is locked as long as the device is there, so that a file that
-    /// another device holds is refused, whatever process it is of. Nothing is written to it.
+    /// Opens a regular file; where there is none, it is made, if it may be. It is locked as long as the device is
+    /// there, so that a file that another device holds is refused, whatever process it is of. Nothing is written to it.
     pub fn open<R: Files<File = File>>(
         rt: &R,
         alloc: Global,
         path: &str,
         may_be_made: bool,
     ) -> Result<FileDevice, FileDeviceError>
-        ensures { IfOk result (λ device. (length device.image.items ≤ 4096) × (device.failures ≡ 0) × (device.known.history.events ≡ [])) }
+        ensures { IfOk result (λ device. (length device.image.items ≤ 4096) × (device.failures ≡ 0)
+            × (device.known.history.events ≡ [])) }
     {
         let mut file = open_locked(rt, path, may_be_made)?;
         let image = read_image(alloc, &mut file, MAX_OCTETS)?;
@@ -94,10 +97,12 @@ impl FileDevice {
         })
     }
 
-    /// Writes what the file held as it was opened once more, as it is, and syncs it: a sync that failed in an earlier process may have left that in the
-    /// system's memory alone, where it is read, and no later sync writes it. What is known of the file begins anew.
+    /// Writes what the file held as it was opened once more, as it is, and syncs it: a sync that failed in an earlier
+    /// process may have left that in the system's memory alone, where it is read, and no later sync writes it. What is
+    /// known of the file begins anew.
     pub fn settled(self) -> Result<FileDevice, FileDeviceError>
-        ensures { IfOk result (λ device. (device.image ≡ self.image) × (device.failures ≡ self.failures) × (device.known.history.events ≡ [])) }
+        ensures { IfOk result (λ device. (device.image ≡ self.image) × (device.failures ≡ self.failures)
+            × (device.known.history.events ≡ [])) }
     {
         let FileDevice {
             alloc,
@@ -119,8 +124,8 @@ impl FileDevice {
         })
     }
 
-    /// Whether the file holds nothing: no octets, zeros, or the first stored view of a replica of this cluster whose writing was cut short. No
-    /// replica has promised anything that is in such a file.
+    /// Whether the file holds nothing: no octets, zeros, or the first stored view of a replica of this cluster whose
+    /// writing was cut short. No replica has promised anything that is in such a file.
     pub fn holds_nothing(&self, cluster: Cluster) -> bool
         ensures { IsTrue result → IsUnused cluster self.now.image.items }
     {
@@ -165,7 +170,8 @@ fn size_of(file: &File, most: usize) -> usize {
     }
 }
 
-/// Reads all octets of a file, so many at most. They are put where they stay: room for as many as the file has is made first.
+/// Reads all octets of a file, so many at most. They are put where they stay: room for as many as the file has is made
+/// first.
 pub(crate) fn read_image(
     alloc: Global,
     file: &mut File,

@@ -1,4 +1,5 @@
-//! The first block of a journal's file: its head, and zeros to the end of a page, so that no write of the journal's octets is in its place.
+//! The first block of a journal's file: its head, and zeros to the end of a page, so that no write of the journal's
+//! octets is in its place.
 ghost use Rattle.std.specs.Prelude.{◌≡◌, ◌≤◌, ◌++◌, length, replicate, IfOk};
 ghost use Rattle.file_device.specs.private.Heads.{head_of};
 
@@ -17,7 +18,8 @@ pub const BLOCK: usize = 4096;
 /// How many of them follow the head.
 const REST: usize = 3960;
 
-/// The first octets of a file, as many as a first block has, or all where there are fewer. What follows them is read next.
+/// The first octets of a file, as many as a first block has, or all where there are fewer. What follows them is read
+/// next.
 pub fn read_front(alloc: Global, file: &mut File) -> Result<Vec<u8>, FileDeviceError>
     ensures { IfOk result (λ front. length front.items ≤ 4096) }
 {

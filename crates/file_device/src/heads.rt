@@ -1,7 +1,7 @@
 //! Spells the octets that a journal's file begins with, and reads whose the journal is from them.
 //!
-//! They are a frame with a note that begins a journal, as `log_journal` spells one, but of version 2: a program that knows version 1 alone
-//! refuses the file as one of another version, and writes nothing.
+//! They are a frame with a note that begins a journal, as `log_journal` spells one, but of version 2: a program that
+//! knows version 1 alone refuses the file as one of another version, and writes nothing.
 ghost use Rattle.std.specs.Prelude.{◌≡◌, ◌+◌, ◌≤◌, ◌++◌, length, take, drop, IfOk, IfSome, OnOk};
 ghost use Rattle.file_device.specs.private.Heads.{beginning, body_of, earlier_head, head_of, magic, numeral, sum_of};
 ghost use Rattle.journal.specs.Frames.{frame};
@@ -54,7 +54,8 @@ pub fn sum_of(octets: &[u8]) -> [u8; 8]
 
 /// Adds whose a journal is. Its only error is want of memory.
 fn put_replica(out: &mut Vec<u8>, replica: ReplicaId) -> Result<(), AllocError>
-    ensures { OnOk result (out.new.items ≡ out.old.items ++ (numeral replica.cluster ++ (numeral replica.index ++ numeral replica.count))) }
+    ensures { OnOk result (out.new.items ≡
+        out.old.items ++ (numeral replica.cluster ++ (numeral replica.index ++ numeral replica.count))) }
 {
     put_number(out, replica.cluster)?;
     put_number(out, replica.index)?;

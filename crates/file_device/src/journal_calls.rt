@@ -29,11 +29,12 @@ fn write_zeros(file: &File, end: u64, octets: u64) -> io::Result<()> {
     file.sync_data()
 }
 
-/// How many octets may be synced until the first block notes it once more: each batch does. A greater step writes fewer pages, and tells damage
-/// of as many octets from a torn end less often.
+/// How many octets may be synced until the first block notes it once more: each batch does. A greater step writes fewer
+/// pages, and tells damage of as many octets from a torn end less often.
 const MARK_STEP: u64 = 1;
 
-/// How many octets of what is cleared are written and synced first: those of a frame's header, so that no torn write of the rest makes a frame.
+/// How many octets of what is cleared are written and synced first: those of a frame's header, so that no torn write of
+/// the rest makes a frame.
 const HEADER: u64 = 10;
 
 /// The least first octet of a frame. What is cleared begins with 0.
@@ -63,7 +64,8 @@ impl Device for JournalFile {
 
     ghost failure_count = { λ f. f.failures };
 
-    ghost counts_now = { λ f t c le left. replay.counts_now f.octets.known.history.base f.octets.known.history.events t c le left };
+    ghost counts_now = { λ f t c le left. replay.counts_now f.octets.known.history.base f.octets.known.history.events
+        t c le left };
 
     ghost only_now = { λ f c left. replay.only_now f.octets.known.history.base f.octets.known.history.events c left };
 
@@ -121,8 +123,8 @@ impl Device for JournalFile {
 }
 
 impl JournalFile {
-    /// Writes a mark, beside frames that are to be written from a place on, where there was none for long: all before them was synced. The
-    /// sync of the frames settles it.
+    /// Writes a mark, beside frames that are to be written from a place on, where there was none for long: all before
+    /// them was synced. The sync of the frames settles it.
     fn note_synced(&mut self, at: u64, octets: &[u8]) -> io::Result<()>
         ensures octets { self.new.octets ≡ self.old.octets }
         ensures failures { self.new.failures ≡ self.old.failures }
@@ -143,8 +145,8 @@ impl JournalFile {
         }
     }
 
-    /// Notes that the journal cleared what stands from a place on. The start may still be refused, and then the file stays as it is: a crash
-    /// before it is cleared leaves what the journal reads the same strings from.
+    /// Notes that the journal cleared what stands from a place on. The start may still be refused, and then the file
+    /// stays as it is: a crash before it is cleared leaves what the journal reads the same strings from.
     fn put_off(&mut self, at: u64)
         ensures octets { self.new.octets ≡ self.old.octets }
         ensures failures { self.new.failures ≡ self.old.failures }
@@ -198,7 +200,8 @@ impl JournalFile {
         self.file.write_all_at(octets, place)
     }
 
-    /// Writes zeros behind the end, and syncs them. Where that doesn't end well, the file is cut where it ended before; why it didn't.
+    /// Writes zeros behind the end, and syncs them. Where that doesn't end well, the file is cut where it ended before;
+    /// why it didn't.
     fn extend(&mut self, zeros: u64) -> Result<(), GrowthError>
         ensures octets { self.new.octets ≡ self.old.octets }
         ensures later { self.old.failures ≤ self.new.failures }
@@ -223,8 +226,10 @@ impl JournalFile {
 
     /// Writes zeros behind the end, and notes them.
     fn lengthen(&mut self, zeros: u64) -> Result<(), GrowthError>
-        ensures ok { OnOk result (self.new.octets.known.history ≡ record self.old.octets.known.history { events = grow zeros true ∷ self.old.octets.known.history.events }) }
-        ensures err { OnErr result (self.new.octets.known.history ≡ record self.old.octets.known.history { events = grow zeros false ∷ self.old.octets.known.history.events }) }
+        ensures ok { OnOk result (self.new.octets.known.history ≡ record self.old.octets.known.history
+            { events = grow zeros true ∷ self.old.octets.known.history.events }) }
+        ensures err { OnErr result (self.new.octets.known.history ≡ record self.old.octets.known.history
+            { events = grow zeros false ∷ self.old.octets.known.history.events }) }
         ensures later { self.old.failures ≤ self.new.failures }
         ensures cause { IsErrOf result GrowthError.DeviceFailed → HasRisen self.old.failures self.new.failures }
     {

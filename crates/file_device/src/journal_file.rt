@@ -22,11 +22,12 @@ use std::sync::atomic::AtomicU64;
 /// How many octets a journal's file may have.
 const MAX_OCTETS: u64 = 0x4000_0000_0000_0000;
 
-/// A file as the device under a journal. What it holds is judged before anything is written there. It is read once, as it is opened;
-/// what was read is kept in pieces until the journal lets go of it, and a read of what isn't kept fails. A write or a growth lets go
-/// of all. So a batch costs one write of its own octets and one sync, and nothing of the file stays in memory. The journal's octets
-/// begin behind the first block. What a crash leaves of it is said by the rules of a device: each call of the system that writes, grows or
-/// syncs is noted beside it, and that the system and the disk keep these rules is assumed (GUARANTEES).
+/// A file as the device under a journal. What it holds is judged before anything is written there. It is read once, as
+/// it is opened; what was read is kept in pieces until the journal lets go of it, and a read of what isn't kept fails.
+/// A write or a growth lets go of all. So a batch costs one write of its own octets and one sync, and nothing of the
+/// file stays in memory. The journal's octets begin behind the first block. What a crash leaves of it is said by the
+/// rules of a device: each call of the system that writes, grows or syncs is noted beside it, and that the system and
+/// the disk keep these rules is assumed (GUARANTEES).
 pub struct JournalFile {
     pub(crate) file: File,
     /// What the file holds behind its first block, as far as it is honest.
@@ -57,8 +58,9 @@ impl Drop for JournalFile {
     }
 }
 
-/// Refuses a journal that was cut inside its first block, or of which less is read than was synced: how far its frames reach, beside what
-/// that block says. Gives where the frames begin that may not be synced, and where the last one ends.
+/// Refuses a journal that was cut inside its first block, or of which less is read than was synced: how far its frames
+/// reach, beside what that block says. Gives where the frames begin that may not be synced, and where the last one
+/// ends.
 fn check_whole(octets: &KeptOctets, front: &[u8]) -> Result<(u64, u64), FileDeviceError> {
     if front.len() < BLOCK {
         return Err(FileDeviceError::Damaged {
@@ -76,8 +78,8 @@ fn check_whole(octets: &KeptOctets, front: &[u8]) -> Result<(u64, u64), FileDevi
     }
 }
 
-/// Writes the frames once more that may not be synced, and syncs them. A sync that failed in an earlier process may have left them in the system's
-/// memory alone, where they are read, and no later sync writes them.
+/// Writes the frames once more that may not be synced, and syncs them. A sync that failed in an earlier process may
+/// have left them in the system's memory alone, where they are read, and no later sync writes them.
 fn settle(file: &File, octets: &KeptOctets, unsynced: (u64, u64)) -> io::Result<()> {
     let (from, to) = unsynced;
     octets.write_again(file, from, to)?;
@@ -85,9 +87,10 @@ fn settle(file: &File, octets: &KeptOctets, unsynced: (u64, u64)) -> io::Result<
 }
 
 impl JournalFile {
-    /// Opens the file in which a replica keeps its journal, and makes it where there is none. Anything but this replica's journal, or
-    /// nothing, is refused, and stays as it is. What may not be synced of the journal is written once more, as it is, and synced. At a first start a journal of version 1 is refused too. The file is locked as long as
-    /// the device is there, so that a file that another device holds is refused, whatever process it is of.
+    /// Opens the file in which a replica keeps its journal, and makes it where there is none. Anything but this
+    /// replica's journal, or nothing, is refused, and stays as it is. What may not be synced of the journal is written
+    /// once more, as it is, and synced. At a first start a journal of version 1 is refused too. The file is locked as
+    /// long as the device is there, so that a file that another device holds is refused, whatever process it is of.
     pub fn open<R: Files<File = File>>(
         rt: &R,
         alloc: Global,
@@ -137,7 +140,8 @@ impl JournalFile {
         })
     }
 
-    /// The device over a file whose first octets hold nothing. Where what follows them holds something, nothing is written.
+    /// The device over a file whose first octets hold nothing. Where what follows them holds something, nothing is
+    /// written.
     fn begin<R: Files<File = File>>(
         rt: &R,
         alloc: Global,

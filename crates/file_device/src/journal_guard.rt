@@ -1,4 +1,5 @@
-//! Looks at the file of a journal while its replica runs: an administrator may have removed it, put another in its place, cut it or written over it.
+//! Looks at the file of a journal while its replica runs: an administrator may have removed it, put another in its
+//! place, cut it or written over it.
 use crate::fault::FileDeviceError;
 use crate::first_block::BLOCK;
 use crate::heads::HEAD;
@@ -17,7 +18,8 @@ pub struct JournalGuard {
     path: String,
     /// What the file begins with.
     head: [u8; 136],
-    /// How many octets it had at the last look: it never gets shorter while a replica runs, but for a growth that didn't end well.
+    /// How many octets it had at the last look: it never gets shorter while a replica runs, but for a growth that
+    /// didn't end well.
     size: AtomicU64,
     /// Up to where it was synced at the last look, as its mark says: that never falls.
     synced: AtomicU64,
@@ -38,7 +40,8 @@ impl Drop for JournalGuard {
 }
 
 impl JournalGuard {
-    /// A guard of a journal, over a device that was opened by this path. The file stays locked as long as one of the two is there.
+    /// A guard of a journal, over a device that was opened by this path. The file stays locked as long as one of the
+    /// two is there.
     pub fn new(device: &JournalFile, path: String) -> Result<JournalGuard, FileDeviceError> {
         let file = device.file.try_clone().map_err(failed)?;
         let metadata = file.metadata().map_err(failed)?;
@@ -72,8 +75,8 @@ impl JournalGuard {
         }
     }
 
-    /// Whether the mark among these octets says less than one did before: an older copy was written over the file. A mark that isn't whole says
-    /// nothing.
+    /// Whether the mark among these octets says less than one did before: an older copy was written over the file. A
+    /// mark that isn't whole says nothing.
     fn is_older(&self, front: &[u8]) -> bool {
         let Some(synced) = mark_in(front) else {
             return false;
@@ -95,7 +98,8 @@ impl JournalGuard {
         }
     }
 
-    /// Whether the journal was removed, replaced, cut, or written over, at its beginning or by an older copy. A look that the system refuses shows nothing.
+    /// Whether the journal was removed, replaced, cut, or written over, at its beginning or by an older copy. A look
+    /// that the system refuses shows nothing.
     pub fn is_lost<R: Files<File = File>>(&self, rt: &R) -> bool {
         is_elsewhere(rt, self.path.as_str(), self.identity) || self.is_cut() || self.is_changed()
     }

@@ -1,4 +1,5 @@
-//! Judges the first octets of a file before anything is written there: whether a replica's journal is in it, nothing, or something else.
+//! Judges the first octets of a file before anything is written there: whether a replica's journal is in it, nothing,
+//! or something else.
 ghost use Rattle.std.specs.Prelude.{◌≡◌, ◌≢◌, ◌⊎◌, IfErr, OnOk, IfOk};
 ghost use Rattle.file_device.specs.Unused.{is_torn};
 ghost use Rattle.file_device.specs.private.Judged.{IsJudged};
@@ -60,7 +61,8 @@ fn check_replica(found: ReplicaId, wanted: ReplicaId) -> Result<(), FileDeviceEr
 /// Why a replica doesn't go on from a journal whose head is another.
 fn check_owner(found: &JournalOwner, wanted: &JournalOwner) -> Result<(), FileDeviceError>
     ensures ok { OnOk result (found.now ≡ wanted.now) }
-    ensures err { IfErr result (λ e. ((e ≡ FileDeviceError.ForeignCluster) × (found.now.replica.cluster ≢ wanted.now.replica.cluster))
+    ensures err { IfErr result (λ e. ((e ≡ FileDeviceError.ForeignCluster)
+        × (found.now.replica.cluster ≢ wanted.now.replica.cluster))
         ⊎ ((e ≡ FileDeviceError.OtherReplica) × (found.now.replica ≢ wanted.now.replica))
         ⊎ ((e ≡ FileDeviceError.OtherSchema) × (found.now.schema ≢ wanted.now.schema))
         ⊎ ((e ≡ FileDeviceError.OtherSuffix) × (found.now.suffix ≢ wanted.now.suffix))) }
@@ -108,7 +110,8 @@ fn judge_earlier(
     }
 }
 
-/// What a file holds that begins so, where the journal of this owner is to be kept there. Want of memory is its only other error.
+/// What a file holds that begins so, where the journal of this owner is to be kept there. Want of memory is its only
+/// other error.
 pub fn judge(alloc: Global, front: &[u8], owner: &JournalOwner) -> Result<Holding, FileDeviceError>
     ensures { IsJudged owner.now front.now result }
 {

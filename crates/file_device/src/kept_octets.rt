@@ -1,4 +1,5 @@
-//! Holds the octets of a file: all as clauses know them, in no memory, and those at its end that reads are answered from.
+//! Holds the octets of a file: all as clauses know them, in no memory, and those at its end that reads are answered
+//! from.
 ghost use Rattle.std.specs.Prelude.{◌≡◌, ◌≤◌, ◌<◌, ◌+◌, ◌-◌, ◌++◌, ◌∷◌, ◌^◌, [], IsTrue, OnOk, length, max, vec_len, take, drop, true, false};
 ghost use Rattle.journal.specs.Memory.{write, grow, settle};
 ghost use Rattle.file_device.specs.History.{no_history, octets_of};
@@ -93,11 +94,15 @@ impl KeptOctets {
         Ok(())
     }
 
-    /// Joins a piece that was read, as the file is opened, to the end. At an error, which is want of memory, nothing has changed.
+    /// Joins a piece that was read, as the file is opened, to the end. At an error, which is want of memory, nothing
+    /// has changed.
     pub fn join(&mut self, piece: Vec<u8>) -> Result<(), AllocError>
         requires room { length (octets_of self.old.known.history) + vec_len piece < 2 ^ 64 }
         requires opened { self.old.known.history.events ≡ [] }
-        ensures ok { OnOk result (self.new.known.history ≡ record { base = self.old.known.history.base ++ piece.items; events = [] }) }
+        ensures ok { OnOk result (self.new.known.history ≡ record {
+          base = self.old.known.history.base ++ piece.items;
+          events = [];
+        }) }
     {
         self.pieces.reserve(1)?;
         self.known.join(&piece);
@@ -123,10 +128,12 @@ impl KeptOctets {
         }
     }
 
-    /// Fills the buffer with the octets from a place on; whether they are still kept. Where they aren't, the buffer holds anything.
+    /// Fills the buffer with the octets from a place on; whether they are still kept. Where they aren't, the buffer
+    /// holds anything.
     pub fn read(&self, at: u64, buffer: &mut [u8]) -> bool
         requires { at + length buffer.old ≤ length (octets_of self.now.known.history) }
-        ensures octets { IsTrue result → buffer.new ≡ take (length buffer.old) (drop at (octets_of self.now.known.history)) }
+        ensures octets { IsTrue result → buffer.new ≡ take (length buffer.old)
+            (drop at (octets_of self.now.known.history)) }
         ensures kept { self.now.size - self.now.kept ≤ at → IsTrue result }
     {
         let start = self.size - self.kept;
@@ -136,7 +143,10 @@ impl KeptOctets {
     /// Notes octets that were written over those of a place. None are kept then.
     pub fn write_over(&mut self, at: u64, octets: &[u8])
         requires { at + length octets.now ≤ length (octets_of self.old.known.history) }
-        ensures { self.new.known.history ≡ record self.old.known.history { events = write at octets.now true ∷ self.old.known.history.events } }
+        ensures { self.new.known.history ≡ record self.old.known.history {
+          events = write at octets.now
+              true ∷ self.old.known.history.events;
+        } }
     {
         self.pieces.clear();
         self.kept = 0;
@@ -146,21 +156,26 @@ impl KeptOctets {
     /// Notes a write that was done in part or not at all.
     pub fn cut_write(&mut self, at: u64, octets: &[u8])
         requires { at + length octets.now ≤ length (octets_of self.old.known.history) }
-        ensures { self.new.known.history ≡ record self.old.known.history { events = write at octets.now false ∷ self.old.known.history.events } }
+        ensures { self.new.known.history ≡ record self.old.known.history {
+          events = write at octets.now
+              false ∷ self.old.known.history.events;
+        } }
     {
         self.known.cut_write(at, octets);
     }
 
     /// Notes a growth that was done in part or not at all.
     pub fn cut_growth(&mut self, zeros: u64)
-        ensures { self.new.known.history ≡ record self.old.known.history { events = grow zeros false ∷ self.old.known.history.events } }
+        ensures { self.new.known.history ≡ record self.old.known.history
+            { events = grow zeros false ∷ self.old.known.history.events } }
     {
         self.known.cut_growth(zeros);
     }
 
     /// Notes a sync that succeeded.
     pub fn settle(&mut self)
-        ensures { self.new.known.history ≡ record self.old.known.history { events = settle ∷ self.old.known.history.events } }
+        ensures { self.new.known.history ≡ record self.old.known.history
+            { events = settle ∷ self.old.known.history.events } }
     {
         self.known.settle();
     }
@@ -168,7 +183,8 @@ impl KeptOctets {
     /// Notes so many zeros that were written behind the end, and synced. None are kept then.
     pub fn lengthen(&mut self, zeros: u64)
         requires { length (octets_of self.old.known.history) + zeros < 2 ^ 64 }
-        ensures { self.new.known.history ≡ record self.old.known.history { events = grow zeros true ∷ self.old.known.history.events } }
+        ensures { self.new.known.history ≡ record self.old.known.history
+            { events = grow zeros true ∷ self.old.known.history.events } }
     {
         self.pieces.clear();
         self.known.lengthen(zeros);

@@ -1,4 +1,5 @@
-//! Writes a journal of version 1, which has no first block, anew with one: in a file beside it, which takes its name once it is synced.
+//! Writes a journal of version 1, which has no first block, anew with one: in a file beside it, which takes its name
+//! once it is synced.
 use crate::fault::FileDeviceError;
 use crate::first_block::{BLOCK, read_front, write_first_block};
 use crate::judging::{Holding, judge};
@@ -66,8 +67,8 @@ fn fill(
     anew.sync_all().map_err(failed)
 }
 
-/// A journal of version 1, of this name, written anew with a first block. A crash leaves it as it was, or as it is written anew; so does
-/// an error. The file that was written anew is read from its beginning next.
+/// A journal of version 1, of this name, written anew with a first block. A crash leaves it as it was, or as it is
+/// written anew; so does an error. The file that was written anew is read from its beginning next.
 pub fn migrated<R: Files<File = File>>(
     rt: &R,
     alloc: Global,

@@ -55,8 +55,8 @@ pub fn is_there<R: Files<File = File>>(rt: &R, path: &str, identity: FileIdentit
     }
 }
 
-/// Refuses a name that leads to what is no regular file, before that is opened: an open may wait, or do something by itself. Where there is
-/// nothing, a file may have to be made.
+/// Refuses a name that leads to what is no regular file, before that is opened: an open may wait, or do something by
+/// itself. Where there is nothing, a file may have to be made.
 fn check_kind<R: Files<File = File>>(
     rt: &R,
     path: &str,

@@ -34,7 +34,8 @@ fn read_piece(
 
 /// Reads all octets of a file, so many at most.
 pub fn read_octets(alloc: Global, file: &mut File, most: u64) -> Result<KeptOctets, FileDeviceError>
-    ensures { IfOk result (λ octets. (length (octets_of octets.known.history) ≤ most) × (octets.known.history.events ≡ [])) }
+    ensures { IfOk result (λ octets. (length (octets_of octets.known.history) ≤ most)
+        × (octets.known.history.events ≡ [])) }
 {
     let mut octets = KeptOctets::new(alloc);
     for _ in 0..u64::MAX {

@@ -1,5 +1,5 @@
-//! Notes in the first block of a journal's file up to where the journal was synced, and reads it: a journal whose frames end before that is
-//! damaged, and isn't one whose end was torn.
+//! Notes in the first block of a journal's file up to where the journal was synced, and reads it: a journal whose
+//! frames end before that is damaged, and isn't one whose end was torn.
 ghost use Rattle.std.specs.Prelude.{◌≡◌, IfSome};
 ghost use Rattle.file_device.specs.private.Heads.{numeral, sum_of};
 ghost use Rattle.file_device.specs.private.Marks.{IsMarked};

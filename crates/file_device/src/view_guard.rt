@@ -46,8 +46,8 @@ impl Drop for ViewGuard {
 }
 
 impl ViewGuard {
-    /// A guard of the stored view of a cluster's replica, over a device that was opened by this path. The file stays locked as long as one of the
-    /// two is there.
+    /// A guard of the stored view of a cluster's replica, over a device that was opened by this path. The file stays
+    /// locked as long as one of the two is there.
     pub fn new(
         device: &FileDevice,
         path: String,
@@ -77,9 +77,9 @@ impl ViewGuard {
         }
     }
 
-    /// Whether the stored view was removed, replaced or written over, of a replica that was in this view before, since the start that these
-    /// restarts count. A look that the system refuses shows nothing. What one read shows may be a store that the node is halfway through, so a
-    /// second one has to show it too.
+    /// Whether the stored view was removed, replaced or written over, of a replica that was in this view before, since
+    /// the start that these restarts count. A look that the system refuses shows nothing. What one read shows may be a
+    /// store that the node is halfway through, so a second one has to show it too.
     pub fn is_lost<R: Files<File = File>>(&self, rt: &R, restarts: u64, view: u64) -> bool {
         is_elsewhere(rt, self.path.as_str(), self.identity)
             || (self.is_changed(restarts, view) && self.is_changed(restarts, view))

@@ -17,7 +17,8 @@ use std::alloc::{AllocError, Global};
 /// The number of a name's entry, and its attributes. It takes no memory.
 pub fn entry_of<'a>(tree: &'a Tree, name: &[Rdn]) -> Option<(u64, &'a SharedEntry)>
     ensures number { option_map (λ p. p.0) result ≡ option_map (λ e. e.number) (find (rdns name.now) tree.now.entries) }
-    ensures entry { option_map (λ p. p.1.now) result ≡ option_map (λ e. e.entry) (find (rdns name.now) tree.now.entries) }
+    ensures entry { option_map (λ p. p.1.now) result ≡ option_map (λ e. e.entry)
+        (find (rdns name.now) tree.now.entries) }
 {
     tree.is_directory();
     match tree.find(name) {
@@ -71,7 +72,8 @@ fn nearest_name(
     tree: &Tree,
     name: &[Rdn],
 ) -> Result<String, AllocError>
-    ensures { IfOk result (λ t. string_bytes t ≡ option_map_or (λ e. printed_name schema.now e.name) (nearest_entry (rdns name.now) (directory schema.now tree.now).entries) []) }
+    ensures { IfOk result (λ t. string_bytes t ≡ option_map_or (λ e. printed_name schema.now e.name)
+        (nearest_entry (rdns name.now) (directory schema.now tree.now).entries) []) }
 {
     match standing(alloc, tree, front_of(tree, name))? {
         Some((_, held)) => held.name.print(alloc, schema),

@@ -83,7 +83,19 @@ impl IndexedTree {
         requires above { AllBelow number self.old.tree.entries }
         requires absent { is_some (find (rdns name) self.old.tree.entries) ≡ false }
         requires footing { has_footing (rdns self.old.tree.suffix) (rdns name) self.old.tree.entries ≡ true }
-        ensures ok { OnOk result (self.new ≡ record { indexes = self.old.indexes; tree = record { suffix = self.old.tree.suffix; entries = self.old.tree.entries ++ record { number = number; name = name_placed (rdns self.old.tree.suffix) name self.old.tree.entries; entry = entry } ∷ [] } }) }
+        ensures ok { OnOk result (self.new ≡ record {
+          indexes = self.old.indexes;
+          tree =
+              record {
+                suffix = self.old.tree.suffix;
+                entries = self.old.tree.entries ++ record {
+                  number = number;
+                  name = name_placed (rdns self.old.tree.suffix) name self.old.tree.entries;
+                  entry =
+                      entry;
+                } ∷ [];
+              };
+        }) }
         ensures err { OnErr result (self.new ≡ self.old) }
     {
         let postings = listed_more(&self.tree, &self.postings, number, &entry)?;
@@ -96,7 +108,11 @@ impl IndexedTree {
     pub fn delete(&mut self, name: &[Rdn], number: u64) -> Result<(), AllocError>
         requires here { option_map (λ e. e.number) (find (rdns name.now) self.old.tree.entries) ≡ Some number }
         requires leaf { has_below (rdns name.now) self.old.tree.entries ≡ false }
-        ensures ok { OnOk result (self.new ≡ record { indexes = self.old.indexes; tree = record { suffix = self.old.tree.suffix; entries = unnumbered number self.old.tree.entries } }) }
+        ensures ok { OnOk result (self.new ≡ record {
+          indexes = self.old.indexes;
+          tree =
+              record { suffix = self.old.tree.suffix; entries = unnumbered number self.old.tree.entries };
+        }) }
         ensures err { OnErr result (self.new ≡ self.old) }
     {
         let postings = unlisted(&self.tree, &self.postings, number)?;
@@ -107,7 +123,11 @@ impl IndexedTree {
 
     /// Gives the entry of a number other attributes; its name stays. An `Err` changes nothing.
     pub fn replace(&mut self, number: u64, entry: SharedEntry) -> Result<(), AllocError>
-        ensures ok { OnOk result (self.new ≡ record { indexes = self.old.indexes; tree = record { suffix = self.old.tree.suffix; entries = replaced number entry self.old.tree.entries } }) }
+        ensures ok { OnOk result (self.new ≡ record {
+          indexes = self.old.indexes;
+          tree =
+              record { suffix = self.old.tree.suffix; entries = replaced number entry self.old.tree.entries };
+        }) }
         ensures err { OnErr result (self.new ≡ self.old) }
     {
         let postings = relisted(&self.tree, &self.postings, number, &entry)?;
@@ -129,8 +149,17 @@ impl IndexedTree {
         requires root { name_eq (rdns name.now) (rdns self.old.tree.suffix) ≡ false }
         requires parent { is_some (find (above (rdns new_name)) self.old.tree.entries) ≡ true }
         requires apart { begins (rdns name.now) (above (rdns new_name)) ≡ false }
-        requires free { is_some (find (rdns new_name) self.old.tree.entries) ≡ true → name_eq (rdns name.now) (rdns new_name) ≡ true }
-        ensures ok { OnOk result (self.new ≡ record { indexes = self.old.indexes; tree = record { suffix = self.old.tree.suffix; entries = moved (rdns name.now) (name_placed (rdns self.old.tree.suffix) new_name self.old.tree.entries) new_entry self.old.tree.entries } }) }
+        requires free { is_some (find (rdns new_name) self.old.tree.entries) ≡ true →
+            name_eq (rdns name.now) (rdns new_name) ≡ true }
+        ensures ok { OnOk result (self.new ≡ record {
+          indexes = self.old.indexes;
+          tree =
+              record {
+                suffix = self.old.tree.suffix;
+                entries = moved (rdns name.now)
+                    (name_placed (rdns self.old.tree.suffix) new_name self.old.tree.entries) new_entry self.old.tree.entries;
+              };
+        }) }
         ensures err { OnErr result (self.new ≡ self.old) }
     {
         self.tree.is_directory();

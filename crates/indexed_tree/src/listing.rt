@@ -17,7 +17,11 @@ pub fn listed_more(
 ) -> Result<Postings, AllocError>
     requires of { AreOf postings.now (listed_of tree.now.entries) }
     requires above { AllBelow number tree.now.entries }
-    ensures lists { IfOk result (λ p. AreOf p (listed_of tree.now.entries ++ record { number = number; entry = entry.now } ∷ [])) }
+    ensures lists { IfOk result (λ p. AreOf p (listed_of tree.now.entries ++ record {
+      number = number;
+      entry =
+          entry.now;
+    } ∷ [])) }
     ensures indexes { IfOk result (λ p. p.indexes ≡ postings.now.indexes) }
 {
     let mut lists = postings.share()?;

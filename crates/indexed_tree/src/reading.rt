@@ -19,7 +19,8 @@ use std::alloc::{AllocError, Global};
 use std::marker::Model;
 use std::sync::Arc;
 
-/// A directory that is lent to searches: entries at and below one name, under one schema, and the index choice under which they are listed.
+/// A directory that is lent to searches: entries at and below one name, under one schema, and the index choice under
+/// which they are listed.
 #[derive(Drop)]
 pub struct Reading<'a> {
     schema: &'a Arc<Schema>,
@@ -34,7 +35,11 @@ impl<'a> Model for Reading<'a> {
 
     ghost use Rattle.std.specs.Arc.{arc_value};
 
-    ghost view = { λ r. record { directory = directory (arc_value r.schema.now) r.held.now.tree; indexes = r.held.now.indexes } };
+    ghost view = { λ r. record {
+      directory = directory (arc_value r.schema.now) r.held.now.tree;
+      indexes =
+          r.held.now.indexes;
+    } };
 
     ghost invariant = { λ r. AreKeyedBy (arc_value r.schema.now) r.held.now.tree.entries };
 }
@@ -43,7 +48,11 @@ impl<'a> Reading<'a> {
     /// A schema, and a tree whose entries have the keys that it gives them.
     pub fn new(schema: &'a Arc<Schema>, held: &'a IndexedTree) -> Reading<'a>
         requires keyed { AreKeyedBy (arc_value schema.now) held.now.tree.entries }
-        ensures { result ≡ record { directory = directory (arc_value schema.now) held.now.tree; indexes = held.now.indexes } }
+        ensures { result ≡ record {
+          directory = directory (arc_value schema.now) held.now.tree;
+          indexes =
+              held.now.indexes;
+        } }
     {
         Reading { schema, held }
     }
@@ -78,8 +87,8 @@ impl<'a> Reading<'a> {
         self.held.tree().suffix().print(alloc, self.schema)
     }
 
-    /// The number of a name's entry, and its attributes with their keys; none, where the name has none. It takes two look-ups for each relative
-    /// name, and no memory.
+    /// The number of a name's entry, and its attributes with their keys; none, where the name has none. It takes two
+    /// look-ups for each relative name, and no memory.
     pub fn find(&self, name: &[Rdn]) -> Option<(u64, &'a SharedEntry)>
         ensures number { option_map (λ p. p.0) result
             ≡ option_map (λ e. e.number) (entry_named (rdns name.now) self.now.directory.entries) }
@@ -93,8 +102,8 @@ impl<'a> Reading<'a> {
         }
     }
 
-    /// The reply where a name has no entry: noSuchObject (32), with the printed name of the entry of its longest front that has one
-    /// (RFC 4511 4.1.9).
+    /// The reply where a name has no entry: noSuchObject (32), with the printed name of the entry of its longest front
+    /// that has one (RFC 4511 4.1.9).
     pub fn not_found(&self, alloc: Global, name: &[Rdn]) -> Result<Reply, AllocError>
         ensures { IfOk result (λ r. reply_view r ≡ not_found_reply self.now.directory name.now) }
     {

@@ -24,7 +24,8 @@ pub fn name_of(alloc: Global, octets: &[u8]) -> Result<String, TextError>
 /// The line of a type and a value.
 fn line_of(alloc: Global, word: &[u8], value: &[u8]) -> Result<AttributeValue, TextError>
     ensures found { IfOk result (λ v. updates.line_of (record { front = word.now; behind = value.now }) ≡ Some v) }
-    ensures bad { IsErrOf result TextError.BadText → updates.line_of (record { front = word.now; behind = value.now }) ≡ None }
+    ensures bad { IsErrOf result TextError.BadText → updates.line_of (record { front = word.now; behind = value.now })
+        ≡ None }
 {
     let description = name_of(alloc, word)?;
     let octets = Vec::from_slice(alloc, value)?;

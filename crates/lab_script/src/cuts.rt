@@ -34,7 +34,8 @@ pub fn cut_text(octet: u8, text: &[u8]) -> Option<Cut<'_>>
 
 /// What stands behind a colon and a space at the front; none, where they don't stand there.
 fn value_of(text: &[u8]) -> Option<&[u8]>
-    ensures { MatchOption result (cuts.begins_value text.now ≡ false) (λ v. (cuts.begins_value text.now ≡ true) × (v.now ≡ drop 2 text.now)) }
+    ensures { MatchOption result (cuts.begins_value text.now ≡ false) (λ v. (cuts.begins_value text.now ≡ true)
+        × (v.now ≡ drop 2 text.now)) }
 {
     match text {
         [b':', b' ', rest @ ..] => Some(rest),
@@ -75,7 +76,8 @@ pub fn behind_spaces(text: &[u8]) -> &[u8]
 
 /// The octets as text; none, where they are no UTF-8.
 pub fn text_of(octets: &[u8]) -> Option<&str>
-    ensures { MatchOption result (is_utf8 octets.now ≡ false) (λ t. (is_utf8 octets.now ≡ true) × (t.now ≡ octets.now)) }
+    ensures { MatchOption result (is_utf8 octets.now ≡ false) (λ t. (is_utf8 octets.now ≡ true)
+        × (t.now ≡ octets.now)) }
 {
     match std::str::from_utf8(octets) {
         Ok(text) => Some(text),

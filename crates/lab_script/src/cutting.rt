@@ -103,7 +103,13 @@ pub fn search_parts(rest: &[u8]) -> Option<SearchParts<'_>>
 /// The parts of a request behind its word.
 pub fn request_parts(rest: &[u8]) -> Option<RequestParts<'_>>
     ensures { MatchOption result (lines.request_parts rest.now ≡ None)
-        (λ p. lines.request_parts rest.now ≡ Some (record { replica = p.replica; client = p.client; number = p.number; text = p.text.now })) }
+        (λ p. lines.request_parts rest.now ≡ Some (record {
+          replica = p.replica;
+          client = p.client;
+          number =
+              p.number;
+          text = p.text.now;
+        })) }
 {
     let Some(replica) = number_then(rest) else {
         return None;

@@ -18,7 +18,8 @@ pub fn one_update()
 
 /// A text writes one search at most.
 pub fn one_search()
-    ensures { (text : List ℕ) (q other : SearchRequestValue) → IsSearchText text q → IsSearchText text other → q ≡ other }
+    ensures { (text : List ℕ) (q other : SearchRequestValue) → IsSearchText text q → IsSearchText text other →
+        q ≡ other }
 {
     one_filter_text()
 }

@@ -44,7 +44,8 @@ fn message_of(alloc: Global, octets: &[u8]) -> Result<Message, TextError>
 
 /// The update that an operation is.
 fn update_by(op: ProtocolOp) -> Option<Update>
-    ensures { MatchOption result (updates.update_by (operation_view op) ≡ None) (λ u. updates.update_by (operation_view op) ≡ Some (update_view u)) }
+    ensures { MatchOption result (updates.update_by (operation_view op) ≡ None)
+        (λ u. updates.update_by (operation_view op) ≡ Some (update_view u)) }
 {
     match op {
         ProtocolOp::Request(request) => match request_checks::update_in(request) {

@@ -13,8 +13,8 @@ use dir_lab::{Indexes, Lab, LabEvent, LabReply, Name, Schema};
 use std::alloc::Global;
 use std::sync::Arc;
 
-/// Plays a script from the first world on, with as many replicas as its first line names, each of which begins with a directory without entries over
-/// this schema, with these indexes and this name of the root.
+/// Plays a script from the first world on, with as many replicas as its first line names, each of which begins with a
+/// directory without entries over this schema, with these indexes and this name of the root.
 pub fn play(
     alloc: Global,
     schema: Arc<Schema>,
@@ -22,8 +22,10 @@ pub fn play(
     suffix: Name,
     lines: &[Vec<u8>],
 ) -> Result<Vec<LabReply>, ScriptError>
-    // What is shown is what the schedule shows that the lines name, and all that a lab promises holds of that schedule; whatever the indexes.
-    ensures shown { IfOk result (λ shown. IsPlayed (arc_value schema) suffix (lines_in lines.now) (map shown_view shown.items)) }
+    // What is shown is what the schedule shows that the lines name, and all that a lab promises holds of that schedule;
+    // whatever the indexes.
+    ensures shown { IfOk result (λ shown. IsPlayed (arc_value schema) suffix (lines_in lines.now)
+        (map shown_view shown.items)) }
     // A bad line is the first that isn't in the language.
     ensures bad { (n : ℕ) → result ≡ Err (ScriptError.BadLine n) → IsBadLine (lines_in lines.now) n }
 {
@@ -81,7 +83,8 @@ fn events_in(alloc: Global, lines: &[Vec<u8>]) -> Result<Vec<LabEvent>, ScriptEr
 /// The events of the line with this number.
 fn events_at(alloc: Global, line: &[u8], number: u64) -> Result<Vec<LabEvent>, ScriptError>
     ensures found { IfOk result (λ events. IsLine line.now (map event_view events.items)) }
-    ensures bad { (n : ℕ) → result ≡ Err (ScriptError.BadLine n) → ((es : List EventValue) → IsLine line.now es → ⊥) × (n ≡ number) }
+    ensures bad { (n : ℕ) → result ≡ Err (ScriptError.BadLine n) → ((es : List EventValue) → IsLine line.now es → ⊥)
+        × (n ≡ number) }
 {
     match read_line(alloc, line) {
         Ok(events) => Ok(events),

@@ -53,7 +53,9 @@ fn request_of(
     number: u64,
     text: &[u8],
 ) -> Result<LabEvent, LineError>
-    ensures found { IfOk result (λ e. IsRequestOf (record { replica = replica; client = client; number = number; text = text.now }) (event_view e)) }
+    ensures found { IfOk result
+        (λ e. IsRequestOf (record { replica = replica; client = client; number = number; text = text.now })
+        (event_view e)) }
     ensures bad { IsErrOf result LineError.BadLine → (e : EventValue)
         → IsRequestOf (record { replica = replica; client = client; number = number; text = text.now }) e → ⊥ }
 {

@@ -44,7 +44,8 @@ fn scope_of(word: &[u8]) -> Option<Scope>
 /// The parts, where the base stands before the first bar.
 fn cut_again<'a>(base: &'a [u8], behind: &'a [u8]) -> Option<Parts<'a>>
     ensures { MatchOption result (searches.cut_again base.now (cut 124 behind.now) ≡ None)
-        (λ p. searches.cut_again base.now (cut 124 behind.now) ≡ Some (record { base = p.base.now; scope = p.scope; filter = p.filter.now })) }
+        (λ p. searches.cut_again base.now (cut 124 behind.now) ≡
+        Some (record { base = p.base.now; scope = p.scope; filter = p.filter.now })) }
 {
     let Some(
         Cut {
@@ -68,7 +69,8 @@ fn cut_again<'a>(base: &'a [u8], behind: &'a [u8]) -> Option<Parts<'a>>
 /// The parts of a search's text, which is cut at its first two bars.
 fn parts_of(text: &[u8]) -> Option<Parts<'_>>
     ensures { MatchOption result (searches.parts_of text.now ≡ None)
-        (λ p. searches.parts_of text.now ≡ Some (record { base = p.base.now; scope = p.scope; filter = p.filter.now })) }
+        (λ p. searches.parts_of text.now ≡
+        Some (record { base = p.base.now; scope = p.scope; filter = p.filter.now })) }
 {
     match cut_text(b'|', text) {
         Some(parts) => cut_again(parts.front, parts.behind),
@@ -106,7 +108,8 @@ fn search_of(
     scope: Scope,
     filter: &[u8],
 ) -> Result<SearchRequest, TextError>
-    ensures found { IfOk result (λ q. searches.IsSearchOf (record { base = base.now; scope = scope; filter = filter.now }) (search_view q)) }
+    ensures found { IfOk result
+        (λ q. searches.IsSearchOf (record { base = base.now; scope = scope; filter = filter.now }) (search_view q)) }
     ensures bad { IsErrOf result TextError.BadText → (q : SearchRequestValue)
         → searches.IsSearchOf (record { base = base.now; scope = scope; filter = filter.now }) q → ⊥ }
 {
@@ -124,8 +127,8 @@ fn search_of(
     })
 }
 
-/// The search that a text writes, `BASE|SCOPE|FILTER`: cut at the first two bars; the scope is base, one or sub, and the filter is a filter's text
-/// (RFC 4515 3). Aliases are never dereferenced; there are no limits and no selectors.
+/// The search that a text writes, `BASE|SCOPE|FILTER`: cut at the first two bars; the scope is base, one or sub, and
+/// the filter is a filter's text (RFC 4515 3). Aliases are never dereferenced; there are no limits and no selectors.
 pub fn read_search(alloc: Global, text: &[u8]) -> Result<SearchRequest, TextError>
     // What is read is the search that the text writes.
     ensures found { IfOk result (λ q. IsSearchText text.now (search_view q)) }

@@ -28,8 +28,10 @@ fn search_text(alloc: Global, text: &[u8]) -> Result<SearchRequest, LineError>
 
 /// The search of these numbers and this text.
 fn search_of(alloc: Global, replica: u64, named: u64, text: &[u8]) -> Result<LabEvent, LineError>
-    ensures found { IfOk result (λ e. IsSearchOf (record { replica = replica; named = named; text = text.now }) (event_view e)) }
-    ensures bad { IsErrOf result LineError.BadLine → (e : EventValue) → IsSearchOf (record { replica = replica; named = named; text = text.now }) e → ⊥ }
+    ensures found { IfOk result (λ e. IsSearchOf (record { replica = replica; named = named; text = text.now })
+        (event_view e)) }
+    ensures bad { IsErrOf result LineError.BadLine → (e : EventValue) →
+        IsSearchOf (record { replica = replica; named = named; text = text.now }) e → ⊥ }
 {
     match search_text(alloc, text) {
         Ok(request) => Ok(LabEvent::Search {

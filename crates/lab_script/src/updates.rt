@@ -47,8 +47,9 @@ fn update_in(alloc: Global, text: &[u8]) -> Result<Update, TextError>
     }
 }
 
-/// The update that a text writes: `noop`, `add DN|type: value|..`, `delete DN`, or `hex MESSAGE`, the hexadecimal digits of one whole LDAP
-/// message whose operation is an add, a delete, a modify, a modifyDN or the extended request for an update that changes nothing.
+/// The update that a text writes: `noop`, `add DN|type: value|..`, `delete DN`, or `hex MESSAGE`, the hexadecimal
+/// digits of one whole LDAP message whose operation is an add, a delete, a modify, a modifyDN or the extended request
+/// for an update that changes nothing.
 pub fn read_update(alloc: Global, text: &[u8]) -> Result<Op, TextError>
     // What is read is the update that the text writes.
     ensures found { IfOk result (λ op. IsUpdateText text.now op) }

@@ -101,7 +101,8 @@ fn bind_all(
     Ok(parts)
 }
 
-/// An item, as an `or` of leaves; Undefined, where the description is not recognised, or its type can't answer the item.
+/// An item, as an `or` of leaves; Undefined, where the description is not recognised, or its type can't answer the
+/// item.
 fn bind_item(
     alloc: Global,
     schema: &Schema,
@@ -124,7 +125,8 @@ fn bind_on_type(
     asked: Asked,
     type_id: TypeId,
 ) -> Result<BoundFilter, AllocError>
-    ensures value { IfOk result (λ b. type_id < length schema.now.types → (n : List RdnModel) (e : List KeyedAttribute) → IsKeyedBy schema.now e
+    ensures value { IfOk result (λ b. type_id < length schema.now.types →
+        (n : List RdnModel) (e : List KeyedAttribute) → IsKeyedBy schema.now e
         → bound_value n e b ≡ item_on schema.now (item_of asked.entry) (Some type_id) (attributes_of e)) }
     ensures parts { IfOk result (λ b. IsItemOn schema.now (item_of asked.entry) type_id b) }
 {
@@ -235,7 +237,8 @@ fn type_of(schema: &Schema, description: &Option<String>) -> Option<Option<TypeI
     }
 }
 
-/// The type of an item that is an equality item: it names a type with an EQUALITY rule and no rule, and does not ask for the name.
+/// The type of an item that is an equality item: it names a type with an EQUALITY rule and no rule, and does not ask
+/// for the name.
 fn equality_type(
     schema: &Schema,
     asked: &MatchingRuleAssertion,
@@ -244,7 +247,8 @@ fn equality_type(
 ) -> Option<TypeId>
     ensures some { (t : ℕ) → result ≡ Some t → (how ≡ How.Own) × (asked_type.now ≡ Some t)
         × (is_equality_item schema.now (extensible_view asked.now) (Some how) (Some asked_type.now) ≡ true) }
-    ensures none { result ≡ None → is_equality_item schema.now (extensible_view asked.now) (Some how) (Some asked_type.now) ≡ false }
+    ensures none { result ≡ None → is_equality_item schema.now (extensible_view asked.now) (Some how)
+        (Some asked_type.now) ≡ false }
 {
     match how {
         How::Own => own_type(schema, asked.dn_attributes, asked_type),
@@ -351,7 +355,8 @@ fn push_matches(
     in_name: bool,
     matches: &mut Vec<BoundFilter>,
 ) -> Result<(), AllocError>
-    ensures { OnOk result (matches.new.items ≡ matches.old.items ++ matches_for schema.now item.now.how item.now.asked_type.now item.now.assertion.now in_name) }
+    ensures { OnOk result (matches.new.items ≡ matches.old.items ++ matches_for schema.now item.now.how
+        item.now.asked_type.now item.now.assertion.now in_name) }
 {
     for number in 0..schema.count_of_types() {
         let type_id = TypeId::new(number);
@@ -367,14 +372,16 @@ fn push_matches(
     Ok(())
 }
 
-/// A match for each type that the item looks at, on the attributes, and if the item asks for it on the pairs of the name too.
+/// A match for each type that the item looks at, on the attributes, and if the item asks for it on the pairs of the
+/// name too.
 fn matches(
     alloc: Global,
     schema: &Schema,
     item: &KnownItem,
     dn_attributes: bool,
 ) -> Result<Vec<BoundFilter>, AllocError>
-    ensures { IfOk result (λ v. v.items ≡ matches_with schema.now item.now.how item.now.asked_type.now item.now.assertion.now dn_attributes) }
+    ensures { IfOk result (λ v. v.items ≡ matches_with schema.now item.now.how item.now.asked_type.now
+        item.now.assertion.now dn_attributes) }
 {
     let mut matches = Vec::new(alloc);
     push_matches(alloc, schema, item, false, &mut matches)?;
@@ -393,8 +400,10 @@ fn bind_match(
 ) -> Result<BoundFilter, AllocError>
     ensures value { IfOk result (λ b. ((t : ℕ) → item.now.asked_type.now ≡ Some t → t < length schema.now.types)
         → (n : List RdnModel) (e : List KeyedAttribute) → IsKeyedBy schema.now e → bound_value n e b
-        ≡ match_with schema.now item.now.how item.now.asked_type.now item.now.assertion.now dn_attributes n (attributes_of e)) }
-    ensures parts { IfOk result (λ b. IsMatchOn schema.now item.now.how item.now.asked_type.now item.now.assertion.now dn_attributes b) }
+        ≡ match_with schema.now item.now.how item.now.asked_type.now item.now.assertion.now dn_attributes n
+        (attributes_of e)) }
+    ensures parts { IfOk result (λ b. IsMatchOn schema.now item.now.how item.now.asked_type.now item.now.assertion.now
+        dn_attributes b) }
 {
     matches_are_items();
     if !is_matched(alloc, schema, item.how, item.asked_type, item.assertion)? {
@@ -412,8 +421,10 @@ fn bind_known(
     asked_type: &Option<TypeId>,
 ) -> Result<BoundFilter, AllocError>
     ensures value { IfOk result (λ b. how_of_name (extensible_view asked.now).matching_rule ≡ Some how
-        → type_of_name schema.now (extensible_view asked.now).description ≡ Some asked_type.now → IsBoundMatch schema.now (extensible_view asked.now) b) }
-    ensures parts { IfOk result (λ b. IsExtensible schema.now (extensible_view asked.now) (Some how) (Some asked_type.now) b) }
+        → type_of_name schema.now (extensible_view asked.now).description ≡ Some asked_type.now →
+        IsBoundMatch schema.now (extensible_view asked.now) b) }
+    ensures parts { IfOk result (λ b. IsExtensible schema.now (extensible_view asked.now) (Some how)
+        (Some asked_type.now) b) }
 {
     match equality_type(schema, asked, how, asked_type) {
         Some(above) => bind_on_type(
@@ -451,14 +462,16 @@ fn bind_named(
     }
 }
 
-/// An extensible item (RFC 4511 4.5.1.7.7): an `or` of matches, or the equality item that it is; Undefined, where it can't be matched.
+/// An extensible item (RFC 4511 4.5.1.7.7): an `or` of matches, or the equality item that it is; Undefined, where it
+/// can't be matched.
 fn bind_extensible(
     alloc: Global,
     schema: &Schema,
     asked: &MatchingRuleAssertion,
 ) -> Result<BoundFilter, AllocError>
     ensures value { IfOk result (λ b. IsBoundMatch schema.now (extensible_view asked.now) b) }
-    ensures parts { IfOk result (λ b. IsExtensible schema.now (extensible_view asked.now) (how_of_name (extensible_view asked.now).matching_rule)
+    ensures parts { IfOk result (λ b. IsExtensible schema.now (extensible_view asked.now)
+        (how_of_name (extensible_view asked.now).matching_rule)
         (type_of_name schema.now (extensible_view asked.now).description) b) }
 {
     match how_of(&asked.matching_rule) {

@@ -19,7 +19,8 @@ impl Drop for Leaf {
     }
 }
 
-/// A test that names a rule, on the attributes of one type, or on the pairs of that type in the entry's name. No index tells where it is true.
+/// A test that names a rule, on the attributes of one type, or on the pairs of that type in the entry's name. No index
+/// tells where it is true.
 pub struct Match {
     pub type_id: TypeId,
     pub test: MatchTest,
@@ -37,8 +38,8 @@ impl Drop for Match {
     }
 }
 
-/// A filter with its assertions made ready under one schema: an item is an `or` of leaves, one for each type under its type,
-/// each with the test that the item makes of that type; an item that names a rule is an `or` of matches.
+/// A filter with its assertions made ready under one schema: an item is an `or` of leaves, one for each type under its
+/// type, each with the test that the item makes of that type; an item that names a rule is an `or` of matches.
 pub enum BoundFilter {
     And(Vec<BoundFilter>),
     Or(Vec<BoundFilter>),

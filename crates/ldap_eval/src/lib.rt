@@ -1,12 +1,13 @@
 //! Gives the three-valued value of a filter on an entry, once the filter is bound to a schema.
 //!
-//! Binds a filter to a schema, and gives its value on an entry and its name (`name_pairs`) without memory. An item becomes an `or` of
-//! leaves, one for each type under its type, each with its own rule and key. An extensible item that no such leaf says becomes a `Match`.
-//! `naming_rules` knows the rule that an extensible item names and whether a type supports it; `matching` compares values and the pairs of
-//! a name by it.
+//! Binds a filter to a schema, and gives its value on an entry and its name (`name_pairs`) without memory. An item
+//! becomes an `or` of leaves, one for each type under its type, each with its own rule and key. An extensible item that
+//! no such leaf says becomes a `Match`. `naming_rules` knows the rule that an extensible item names and whether a type
+//! supports it; `matching` compares values and the pairs of a name by it.
 //!
-//! Proved: a filter's value is that of RFC 4511 4.5.1.7, for filters of any kind; a bound filter is made part by part (`bind`, `value`). An
-//! extensible item is its definition on an attribute and on a pair of a name (`matching::matches_are_items`).
+//! Proved: a filter's value is that of RFC 4511 4.5.1.7, for filters of any kind; a bound filter is made part by part
+//! (`bind`, `value`). An extensible item is its definition on an attribute and on a pair of a name
+//! (`matching::matches_are_items`).
 #![tactic(auto)]
 
 mod asking;

@@ -83,7 +83,8 @@ pub fn match_test(
     Ok(match_by(schema, how, type_id, rule, key))
 }
 
-/// Whether the type supports the item's rule, and the assertion means something under it. Its only error is want of memory.
+/// Whether the type supports the item's rule, and the assertion means something under it. Its only error is want of
+/// memory.
 pub fn is_matchable(
     alloc: Global,
     schema: &Schema,
@@ -158,7 +159,12 @@ fn is_kept_met(key: Option<&Key>, asserted: &Asserted) -> bool
 
 /// A test on a pair of a name: a type with a value, and the value's key.
 pub fn match_on_pair(test: &MatchTest, written: &TypeAndValue, key: Option<&Key>) -> Truth
-    ensures { result ≡ match_pair test.now (record { kind = written.now.kind; value = written.now.value; key = option_copied key.entry }) }
+    ensures { result ≡ match_pair test.now (record {
+      kind = written.now.kind;
+      value = written.now.value;
+      key =
+          option_copied key.entry;
+    }) }
 {
     match test {
         MatchTest::Unknown => Truth::Undefined,
@@ -174,11 +180,14 @@ pub fn match_on_pair(test: &MatchTest, written: &TypeAndValue, key: Option<&Key>
     }
 }
 
-/// The test of an item that names a rule, on the keys and texts of an attribute's values, or on a pair of a name, is the item there.
+/// The test of an item that names a rule, on the keys and texts of an attribute's values, or on a pair of a name, is
+/// the item there.
 pub fn matches_are_items()
-    ensures values { (s : SchemaModel) (h : How) (a : List ℕ) (t : ℕ) (values keys : List (List ℕ)) → AreKeysOf s t values keys
+    ensures values { (s : SchemaModel) (h : How) (a : List ℕ) (t : ℕ) (values keys : List (List ℕ)) →
+        AreKeysOf s t values keys
         → match_value (match_for s h a t) values keys ≡ item_on_values s h a t values }
-    ensures pairs { (s : SchemaModel) (h : How) (a : List ℕ) (p : PairModel) → match_pair (match_for s h a p.kind) p ≡ item_on_pair s h a p }
+    ensures pairs { (s : SchemaModel) (h : How) (a : List ℕ) (p : PairModel) → match_pair (match_for s h a p.kind) p ≡
+        item_on_pair s h a p }
 {
     keys_compare();
     parts_compare();

@@ -19,7 +19,8 @@ pub trait NamePairs {
     fn number(&self) -> u64
         ensures { named self.now result ≡ name self.now };
 
-    /// The number of the name right above the one of a number, and its last relative name; none, where it is to be read place by place.
+    /// The number of the name right above the one of a number, and its last relative name; none, where it is to be read
+    /// place by place.
     fn superior(&self, number: u64) -> Option<(u64, &Rdn)>
         ensures { IfSome result (λ p. named self.now number ≡ named self.now p.0 ++ p.1.now ∷ []) };
 
@@ -27,7 +28,8 @@ pub trait NamePairs {
     fn count(&self, number: u64) -> usize
         ensures { result ≡ length (named self.now number) };
 
-    /// The relative name at a place of the name of a number, whose pairs count as attributes (RFC 4511 4.5.1.7.7); none, past the end.
+    /// The relative name at a place of the name of a number, whose pairs count as attributes (RFC 4511 4.5.1.7.7);
+    /// none, past the end.
     fn pairs(&self, number: u64, at: usize) -> Option<&Rdn>
         ensures { option_map (λ r. r.now) result ≡ slice_get (named self.now number) at };
 }

@@ -1,5 +1,5 @@
-//! Conversations: a session whose messages may be served by one directory after the other. Pieces of its stream come in, and the octets of its
-//! responses are kept until they are sent. Sockets, threads and whose turn it is are above.
+//! Conversations: a session whose messages may be served by one directory after the other. Pieces of its stream come
+//! in, and the octets of its responses are kept until they are sent. Sockets, threads and whose turn it is are above.
 ghost use Rattle.std.specs.Prelude.{◌≡◌, ◌≤◌, ◌↔◌, ◌++◌, min, IsFalse, drop, length, Option, Some, None, IfSome, OnOk, OnErr};
 ghost use Rattle.std.specs.Option.{option_map};
 ghost use Rattle.session_handler.specs.Session.{at_first};
@@ -19,8 +19,8 @@ use bytes::BytesMut;
 use session_handler::{AnswerError, Answered, Config, Directory, Next};
 use std::alloc::{AllocError, Global};
 
-/// Responses of so many octets are taken over as they are, where nothing is unsent. To copy fewer costs less: the room behind what is taken
-/// over is filled with zeros, up to 16,384.
+/// Responses of so many octets are taken over as they are, where nothing is unsent. To copy fewer costs less: the room
+/// behind what is taken over is filled with zeros, up to 16,384.
 const LARGE: usize = 65_536;
 
 /// Puts responses behind octets, or takes large ones over where there are none; whether there was memory for that.
@@ -122,7 +122,8 @@ impl Conversation {
     /// Keeps what a message is answered with behind what is unsent.
     fn keep(&mut self, answered: Answered) -> Step
         ensures { (conversation_view self.old).end ≡ None
-            → Keeps (conversation_view self.old) (conversation_view self.new) (joined answered.responses) answered.next result }
+            → Keeps (conversation_view self.old) (conversation_view self.new) (joined answered.responses)
+            answered.next result }
     {
         let next = answered.next;
         let is_kept = put_behind(&mut self.unsent, answered.into_octets());
@@ -137,8 +138,9 @@ impl Conversation {
         }
     }
 
-    /// Answers the next message by what this directory says, if a whole one is there; the messages before it may have been answered by others.
-    /// The responses are kept behind those that are unsent. What is no message is answered by the Notice of Disconnection (RFC 4511 4.4.1).
+    /// Answers the next message by what this directory says, if a whole one is there; the messages before it may have
+    /// been answered by others. The responses are kept behind those that are unsent. What is no message is answered by
+    /// the Notice of Disconnection (RFC 4511 4.4.1).
     pub fn answer<D: Directory>(
         &mut self,
         alloc: Global,
@@ -146,13 +148,16 @@ impl Conversation {
         directory: &mut D,
     ) -> Step
         ensures step { (conversation_view self.old).end ≡ None
-            → StepsTo D.allows (config_view config.now) (conversation_view self.old) (conversation_view self.new) directory.old directory.new result }
+            → StepsTo D.allows (config_view config.now) (conversation_view self.old) (conversation_view self.new)
+            directory.old directory.new result }
         // Whichever directories served the messages before, it is one session, and what is said are its responses.
-        ensures continues { Continues D.allows (config_view config.now) (conversation_view self.old) (conversation_view self.new)
+        ensures continues { Continues D.allows (config_view config.now) (conversation_view self.old)
+            (conversation_view self.new)
             directory.old directory.new result }
         // What is over stays over, and nothing is asked.
         ensures over { IfSome (conversation_view self.old).end
-            (λ end. StaysOver (conversation_view self.old) (conversation_view self.new) directory.old directory.new end result) }
+            (λ end. StaysOver (conversation_view self.old) (conversation_view self.new) directory.old directory.new
+            end result) }
     {
         self.answer_unless_over(alloc, config, directory)
     }
@@ -165,9 +170,11 @@ impl Conversation {
         directory: &mut D,
     ) -> Step
         ensures step { (conversation_view self.old).end ≡ None
-            → StepsTo D.allows (config_view config.now) (conversation_view self.old) (conversation_view self.new) directory.old directory.new result }
+            → StepsTo D.allows (config_view config.now) (conversation_view self.old) (conversation_view self.new)
+            directory.old directory.new result }
         ensures over { IfSome (conversation_view self.old).end
-            (λ end. StaysOver (conversation_view self.old) (conversation_view self.new) directory.old directory.new end result) }
+            (λ end. StaysOver (conversation_view self.old) (conversation_view self.new) directory.old directory.new
+            end result) }
     {
         if let Some(end) = self.end {
             return Step::Ends(end);

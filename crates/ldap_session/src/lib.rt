@@ -1,14 +1,15 @@
 //! Serves a session: reads messages off a stream, has each answered by a directory, and writes the
 //! responses.
 //!
-//! A client's stream in pieces (`session`): each message of the framer is answered by the rules. `serving` reads, answers all whole
-//! messages that are there, and flushes; `writing` writes until the writer has taken all. A `Conversation` keeps what is heard and not
-//! answered, and what is answered and not sent, so that different directories may serve its messages (`due` says what is next).
+//! A client's stream in pieces (`session`): each message of the framer is answered by the rules. `serving` reads,
+//! answers all whole messages that are there, and flushes; `writing` writes until the writer has taken all. A
+//! `Conversation` keeps what is heard and not answered, and what is answered and not sent, so that different
+//! directories may serve its messages (`due` says what is next).
 //!
-//! Proved, **the theorem of sessions**: for every directory, every reader and writer that tell their octets, and every cut of the stream,
-//! `serve` writes a session's responses to the messages that it reads. It writes all of them up to what ends the session, with the Notice
-//! of Disconnection where that is due; after a failed write or without memory, a front of them. `Session::feed`, `answer`, `end_of_input`
-//! and `Conversation` say the same message by message.
+//! Proved, **the theorem of sessions**: for every directory, every reader and writer that tell their octets, and every
+//! cut of the stream, `serve` writes a session's responses to the messages that it reads. It writes all of them up to
+//! what ends the session, with the Notice of Disconnection where that is due; after a failed write or without memory, a
+//! front of them. `Session::feed`, `answer`, `end_of_input` and `Conversation` say the same message by message.
 #![tactic(auto)]
 
 mod conversation;

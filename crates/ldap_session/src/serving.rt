@@ -52,10 +52,13 @@ fn read_some<R: Read>(reader: &mut R, buffer: &mut [u8]) -> Got
     }
 }
 
-/// Writes what is unsent; where an update comes next, which may have to wait, the client gets it before. Whether the writer took it all.
+/// Writes what is unsent; where an update comes next, which may have to wait, the client gets it before. Whether the
+/// writer took it all.
 fn put_unsent<W: Write>(writer: &mut W, conversation: &mut Conversation) -> bool
-    ensures written { HasWritten (W.contents writer.old) (W.contents writer.new) (conversation_view conversation.old).unsent result }
-    ensures sent { OnTrue result (conversation_view conversation.new ≡ record (conversation_view conversation.old) { unsent = [] }) }
+    ensures written { HasWritten (W.contents writer.old) (W.contents writer.new)
+        (conversation_view conversation.old).unsent result }
+    ensures sent { OnTrue result (conversation_view conversation.new ≡ record (conversation_view conversation.old)
+        { unsent = [] }) }
     ensures session { (conversation_view conversation.new).session ≡ (conversation_view conversation.old).session }
 {
     let is_urgent = conversation.due() == Due::Update;
@@ -74,7 +77,8 @@ fn put_last<W: Write>(
     conversation: &mut Conversation,
     end: SessionEnd,
 ) -> SessionEnd
-    ensures put { HasPutLast (W.contents writer.old) (W.contents writer.new) (conversation_view conversation.old).unsent end result }
+    ensures put { HasPutLast (W.contents writer.old) (W.contents writer.new)
+        (conversation_view conversation.old).unsent end result }
     ensures session { (conversation_view conversation.new).session ≡ (conversation_view conversation.old).session }
 {
     if put_unsent(writer, conversation) {
@@ -93,7 +97,8 @@ fn answer_ready<W: Write, D: Directory>(
     writer: &mut W,
 ) -> Flow
     requires { IsAllSent (conversation_view conversation.old) }
-    ensures worked { HasWorked D.allows (config_view config.now) directory.old directory.new (conversation_view conversation.old).session
+    ensures worked { HasWorked D.allows (config_view config.now) directory.old directory.new
+        (conversation_view conversation.old).session
         (conversation_view conversation.new).session (W.contents writer.old) (W.contents writer.new) result }
     ensures sent { OnGoing result (IsAllSent (conversation_view conversation.new)) }
 {
@@ -130,7 +135,8 @@ fn answer_piece<W: Write, D: Directory>(
     writer: &mut W,
 ) -> Flow
     requires { IsAllSent (conversation_view conversation.old) }
-    ensures fed { HasFed D.allows (config_view config.now) directory.old directory.new (conversation_view conversation.old).session
+    ensures fed { HasFed D.allows (config_view config.now) directory.old directory.new
+        (conversation_view conversation.old).session
         (conversation_view conversation.new).session piece.now (W.contents writer.old) (W.contents writer.new) result }
     ensures sent { OnGoing result (IsAllSent (conversation_view conversation.new)) }
 {
@@ -143,8 +149,8 @@ fn answer_piece<W: Write, D: Directory>(
     }
 }
 
-/// Serves one client: reads its stream, answers its messages one after the other, each as soon as it is whole, and writes the responses, up
-/// to what ends the session. The 18446744073709551616th read counts as one that fails.
+/// Serves one client: reads its stream, answers its messages one after the other, each as soon as it is whole, and
+/// writes the responses, up to what ends the session. The 18446744073709551616th read counts as one that fails.
 pub fn serve<R: Read, W: Write, D: Directory>(
     alloc: Global,
     reader: &mut R,
@@ -152,7 +158,8 @@ pub fn serve<R: Read, W: Write, D: Directory>(
     directory: &mut D,
     config: &Config,
 ) -> SessionEnd
-    ensures { Served D.allows (config_view config.now) directory.old directory.new (R.remaining reader.old) (R.remaining reader.new)
+    ensures { Served D.allows (config_view config.now) directory.old directory.new (R.remaining reader.old)
+        (R.remaining reader.new)
         (W.contents writer.old) (W.contents writer.new) result }
 {
     let mut conversation = Conversation::new(alloc);

@@ -98,7 +98,8 @@ impl Session {
 
     /// Takes the next piece of the stream. Want of memory is the only error, and changes nothing.
     pub fn feed(&mut self, piece: &[u8]) -> Result<(), AllocError>
-        ensures stream { (stream : List ℕ) (handed : List MessageValue) → HasSeen (session_view self.old).framed stream handed
+        ensures stream { (stream : List ℕ) (handed : List MessageValue) → HasSeen (session_view self.old).framed
+            stream handed
             → OnOk result (HasSeen (session_view self.new).framed (stream ++ piece.now) handed) }
         ensures state { (session_view self.new).state ≡ (session_view self.old).state }
         ensures err { OnErr result (session_view self.new ≡ session_view self.old) }
@@ -111,14 +112,16 @@ impl Session {
         }
     }
 
-    /// Answers the next message, if a whole one is there; what is no message is answered by the Notice of Disconnection (RFC 4511 4.4.1).
+    /// Answers the next message, if a whole one is there; what is no message is answered by the Notice of Disconnection
+    /// (RFC 4511 4.4.1).
     pub fn answer<D: Directory>(
         &mut self,
         alloc: Global,
         config: &Config,
         directory: &mut D,
     ) -> Result<Option<Answered>, AnswerError>
-        ensures { Answers D.allows (config_view config.now) (session_view self.old) (session_view self.new) directory.old directory.new result }
+        ensures { Answers D.allows (config_view config.now) (session_view self.old) (session_view self.new)
+            directory.old directory.new result }
     {
         match self.framer.next() {
             Some(message) => {
@@ -131,7 +134,8 @@ impl Session {
 
     /// What stands next: only an update may have to wait for others, and only the manager's is one.
     pub fn due(&self) -> Due
-        ensures { result ≡ due_of (session_view self.now).state (session_view self.now).framed.ready (session_view self.now).framed.fault }
+        ensures { result ≡ due_of (session_view self.now).state (session_view self.now).framed.ready
+            (session_view self.now).framed.fault }
     {
         match self.framer.peek() {
             Some(message) => {
@@ -231,7 +235,8 @@ impl Session {
         }
     }
 
-    /// How the session ends where its stream ends, once all its messages are answered: between two messages, or inside one.
+    /// How the session ends where its stream ends, once all its messages are answered: between two messages, or inside
+    /// one.
     pub fn end_of_input(&self) -> SessionEnd
         ensures { IsAtLast (session_view self.now) result }
     {

@@ -8,7 +8,8 @@ use std::io::{ErrorKind, Write};
 
 /// Writes once, and gives what is left to be written; nothing, where the writer failed.
 fn write_some<'a, W: Write>(writer: &mut W, octets: &'a [u8]) -> Option<&'a [u8]>
-    ensures some { IfSome result (λ left. WritesSome (W.contents writer.old) (W.contents writer.new) octets.now left.now) }
+    ensures some { IfSome result (λ left. WritesSome (W.contents writer.old) (W.contents writer.new) octets.now
+        left.now) }
     ensures none { IfNone result (Appends (W.contents writer.old) (W.contents writer.new) []) }
 {
     match writer.write(octets) {

@@ -1,4 +1,5 @@
-//! Finds which rule of its classes a record of LDIF breaks (RFC 4512 2.4). The types of the name's first part count as given.
+//! Finds which rule of its classes a record of LDIF breaks (RFC 4512 2.4). The types of the name's first part count as
+//! given.
 ghost use Rattle.std.specs.Prelude.{◌≡◌, ◌++◌, ◌||◌, ◌&&◌, ℕ, None, IfOk, OnOk, codes, false, length, map, nat_eq, nat_lt, option_map, slice_get, slice_index_or, string_bytes};
 ghost use Rattle.std.specs.List.{filter, last_or, list_any};
 ghost use Rattle.ldap_match.specs.ldap_schema.Schema.{find, type_at};
@@ -127,7 +128,8 @@ fn given(alloc: Global, schema: &Schema, item: &PlacedRecord<'_>) -> Result<Vec<
 /// Marks the place of a type, where there is one.
 fn mark(marks: &mut Vec<bool>, number: usize)
     ensures len { length marks.new.items ≡ length marks.old.items }
-    ensures marks { (t : ℕ) → slice_index_or marks.new.items t false ≡ (slice_index_or marks.old.items t false || (nat_lt t (length marks.old.items) && nat_eq t number)) }
+    ensures marks { (t : ℕ) → slice_index_or marks.new.items t false ≡ (slice_index_or marks.old.items t false ||
+        (nat_lt t (length marks.old.items) && nat_eq t number)) }
 {
     if number < marks.len() {
         marks[number] = true;
@@ -171,7 +173,8 @@ impl Model for TypeSet {
 
     ghost view = { λ s. record { count = s.count; types = s.types.items } };
 
-    ghost invariant = { λ s. (t : ℕ) → slice_index_or s.marks.items t false ≡ has (record { count = s.count; types = s.types.items }) t };
+    ghost invariant = { λ s. (t : ℕ) → slice_index_or s.marks.items t false ≡
+        has (record { count = s.count; types = s.types.items }) t };
 }
 
 impl TypeSet {
@@ -381,7 +384,8 @@ fn first_of<'a, 'v>(
     type_id: TypeId,
     lines: &'a [ValueLine<'v>],
 ) -> Option<&'a ValueLine<'v>>
-    ensures { option_map (λ x. x.now) result ≡ first_line (λ line. is_number type_id (find schema.now line.description)) lines.now }
+    ensures { option_map (λ x. x.now) result ≡
+        first_line (λ line. is_number type_id (find schema.now line.description)) lines.now }
 {
     for line in lines {
         if is_number(type_id, type_in(schema, line)) {
@@ -437,7 +441,8 @@ fn foreign_in(
     types: &TypeSet,
     classes: &[ClassId],
 ) -> Result<Placed, AllocError>
-    ensures { IfOk result (λ p. p ≡ foreign_by schema.now item.now (foreign types.now (types_of schema.now (allowed schema.now classes.now)))) }
+    ensures { IfOk result (λ p. p ≡ foreign_by schema.now item.now
+        (foreign types.now (types_of schema.now (allowed schema.now classes.now)))) }
 {
     let allowed = types_of(alloc, schema, allowed(alloc, schema, classes)?)?;
     foreign_by(alloc, schema, item, foreign(types, &allowed))
@@ -451,7 +456,8 @@ fn bad_types(
     types: &TypeSet,
     classes: &[ClassId],
 ) -> Result<Placed, AllocError>
-    ensures { IfOk result (λ p. p ≡ bad_types schema.now item.now types.now classes.now (first_missing schema.now types.now classes.now)) }
+    ensures { IfOk result (λ p. p ≡ bad_types schema.now item.now types.now classes.now
+        (first_missing schema.now types.now classes.now)) }
 {
     match first_missing(alloc, schema, types, classes)? {
         Some(sentence) => Ok(at_name(item, sentence)),

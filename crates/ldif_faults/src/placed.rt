@@ -75,7 +75,12 @@ impl<'a> Model for ValueLine<'a> {
 
     ghost Value = { LineModel };
 
-    ghost view = { λ l. record { number = l.number; description = l.value.now.description; octets = l.value.now.octets } };
+    ghost view = { λ l. record {
+      number = l.number;
+      description = l.value.now.description;
+      octets =
+          l.value.now.octets;
+    } };
 }
 
 impl<'a> ValueLine<'a> {

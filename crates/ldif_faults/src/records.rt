@@ -1,4 +1,5 @@
-//! Explains why a directory refuses the add of a record of LDIF, by the result code: which line of it, and what is wrong there.
+//! Explains why a directory refuses the add of a record of LDIF, by the result code: which line of it, and what is
+//! wrong there.
 ghost use Rattle.std.specs.Prelude.{◌≡◌, ◌++◌, ◌-◌, [], IfOk, codes, map, option_map, slice_get, string_bytes};
 ghost use Rattle.std.specs.Option.{unwrap_or};
 ghost use Rattle.ldif.specs.Placing.{record_lines as lines_of_records};
@@ -132,8 +133,8 @@ impl RecordFaults {
         }
     }
 
-    /// What is wrong with the record of this number, counted from 1, whose add is refused with this code. Fails only when it runs out of
-    /// memory.
+    /// What is wrong with the record of this number, counted from 1, whose add is refused with this code. Fails only
+    /// when it runs out of memory.
     pub fn fault(
         &self,
         alloc: Global,

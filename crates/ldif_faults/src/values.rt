@@ -1,4 +1,5 @@
-//! Finds the value of a record that a result code is given for (RFC 4511 4.7), and puts into words what is wrong with it.
+//! Finds the value of a record that a result code is given for (RFC 4511 4.7), and puts into words what is wrong with
+//! it.
 ghost use Rattle.std.specs.Prelude.{◌≡◌, ◌++◌, ◌∷◌, [], ◌-◌, IfOk, None, cond, codes, decimal, length, map, nat_eq, option_map, slice_get, string_bytes};
 ghost use Rattle.std.specs.List.{list_any};
 ghost use Rattle.std.specs.Ordering.{eq_by_cmp};
@@ -276,7 +277,8 @@ fn first_named_otherwise<'a, 'v>(
     pairs: &[TypeAndValue],
     lines: &'a [ValueLine<'v>],
 ) -> Result<Option<&'a ValueLine<'v>>, AllocError>
-    ensures { IfOk result (λ o. option_map (λ x. x.now) o ≡ first_line (is_named_otherwise schema.now pairs.now) lines.now) }
+    ensures { IfOk result (λ o. option_map (λ x. x.now) o ≡ first_line (is_named_otherwise schema.now pairs.now)
+        lines.now) }
 {
     for line in lines {
         if is_named_otherwise(alloc, schema, pairs, line)? {
@@ -394,7 +396,8 @@ fn first_twice<'a, 'v>(
 
 /// A value in a sentence, where it is text.
 fn value_twice(alloc: Global, line: &ValueLine<'_>) -> Result<String, AllocError>
-    ensures { IfOk result (λ s. string_bytes s ≡ codes "the value '" ++ word_shown line.now.octets ++ codes "' of '" ++ word_shown line.now.description ++ codes "' comes twice") }
+    ensures { IfOk result (λ s. string_bytes s ≡ codes "the value '" ++ word_shown line.now.octets ++ codes
+        "' of '" ++ word_shown line.now.description ++ codes "' comes twice") }
 {
     let value = shown(alloc, line.octets())?;
     let word = shown(alloc, line.description())?;

@@ -22,8 +22,8 @@ pub struct Batch {
     pub(crate) octets: Vec<u8>,
 }
 
-/// Adds the frame of a string to others. E29 where the frames would be too long, else want of memory is the only error, and there is
-/// none where there is room. At an error nothing has changed.
+/// Adds the frame of a string to others. E29 where the frames would be too long, else want of memory is the only error,
+/// and there is none where there is room. At an error nothing has changed.
 pub fn push_frame(octets: &mut Vec<u8>, string: &[u8]) -> Result<(), NoteError>
     requires framed { IsFramed octets.old.items }
     ensures framed { IsFramed octets.new.items }
@@ -32,7 +32,8 @@ pub fn push_frame(octets: &mut Vec<u8>, string: &[u8]) -> Result<(), NoteError>
     ensures errors { IfErr result (λ e. (e ≡ NoteError.Full) ⊎ (e ≡ NoteError.NoMemory)) }
     ensures full { IsErrOf result NoteError.Full → AreTooLong (recorded octets.old.items ++ string.now ∷ []) }
     ensures too_long { AreTooLong (recorded octets.old.items ++ string.now ∷ []) → IsErrOf result NoteError.Full }
-    ensures no_memory { IsErrOf result NoteError.NoMemory → vec_capacity octets.old < vec_len octets.old + (10 + length string.now) }
+    ensures no_memory { IsErrOf result NoteError.NoMemory → vec_capacity octets.old < vec_len octets.old +
+        (10 + length string.now) }
 {
     frames_are_read();
     if string.len() + HEADER >= MOST - octets.as_slice().len() {
@@ -93,8 +94,8 @@ impl Batch {
         push_frame(&mut self.octets, string)
     }
 
-    /// Adds all strings of another batch. E29 where the frames would be too long, else want of memory is the only error. At an error
-    /// nothing has changed.
+    /// Adds all strings of another batch. E29 where the frames would be too long, else want of memory is the only
+    /// error. At an error nothing has changed.
     pub fn join(&mut self, other: Batch) -> Result<(), NoteError>
         ensures ok { OnOk result (self.new ≡ self.old ++ other) }
         ensures err { OnErr result (self.new ≡ self.old) }

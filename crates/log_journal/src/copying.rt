@@ -39,7 +39,8 @@ fn copy_responses(
     Ok(copied)
 }
 
-/// A replica with the same state, and nothing noted of others' changes and responses. It shares the updates. Its only error is want of memory.
+/// A replica with the same state, and nothing noted of others' changes and responses. It shares the updates. Its only
+/// error is want of memory.
 fn copy_alone(alloc: Global, replica: &Replica<Op>) -> Result<Replica<Op>, AllocError>
     ensures state { IfOk result (λ r. state r ≡ record (state replica.now) { do_view_changes = []; responses = [] }) }
     ensures index { IfOk result (λ r. r.index ≡ replica.now.index) }

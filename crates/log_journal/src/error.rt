@@ -18,7 +18,8 @@ pub enum NoteError {
     /// The journal is of another version.
     #[error("E27: another version")]
     AnotherVersion,
-    /// The update has no octets that are read as it: an add of an attribute without values, or more than 4294967295 octets.
+    /// The update has no octets that are read as it: an add of an attribute without values, or more than 4294967295
+    /// octets.
     #[error("E3: the update can't be written")]
     Unwritable,
     /// There is no room for the batch, and the device can't grow.

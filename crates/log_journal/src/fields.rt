@@ -144,7 +144,8 @@ fn is_sum(body: &[u8], sum: &[u8]) -> bool
 
 /// The octets in front of the sum of a string; none where they aren't all there, or the sum isn't theirs.
 fn front_of(string: &[u8]) -> Option<&[u8]>
-    ensures front { MatchOption result (is_summed string.now ≡ false) (λ body. (is_summed string.now ≡ true) × (body.now ≡ front_of string.now)) }
+    ensures front { MatchOption result (is_summed string.now ≡ false) (λ body. (is_summed string.now ≡ true)
+        × (body.now ≡ front_of string.now)) }
     ensures long { IfSome result (λ body. 41 ≤ length body.now) }
 {
     if string.len() < LEAST {

@@ -44,7 +44,8 @@ fn make_room<J: Device>(journal: &mut Journal<J>, octets: u64) -> Result<(), Not
     ensures any_moment { LeavesOnly J.moment J.left_since journal.old.device journal.new.device
         (λ c. recorded c ≡ recorded (J.seen journal.old.device)) }
     ensures later { J.failure_count journal.old.device ≤ J.failure_count journal.new.device }
-    ensures device_failed { IsErrOf result NoteError.DeviceFailed → HasRisen (J.failure_count journal.old.device) (J.failure_count journal.new.device) }
+    ensures device_failed { IsErrOf result NoteError.DeviceFailed → HasRisen (J.failure_count journal.old.device)
+        (J.failure_count journal.new.device) }
     ensures full { IsErrOf result NoteError.Full → HasRoom (J.seen journal.old.device) journal.old.end octets → ⊥ }
     ensures errors { IfErr result (λ e. IsOfSettling e) }
 {
@@ -54,17 +55,20 @@ fn make_room<J: Device>(journal: &mut Journal<J>, octets: u64) -> Result<(), Not
     }
 }
 
-/// Settles a batch of strings by one write and one sync, after more of each where the device must grow first; no strings cost
-/// neither. E29 where it can't grow so far: nothing is written then but zeros. After an error the journal must be opened again.
+/// Settles a batch of strings by one write and one sync, after more of each where the device must grow first; no
+/// strings cost neither. E29 where it can't grow so far: nothing is written then but zeros. After an error the journal
+/// must be opened again.
 pub fn settle<J: Device>(journal: &mut Journal<J>, batch: &Batch) -> Result<(), NoteError>
     requires { IsHeld J.seen J.may_leave journal.old }
     ensures held { OnOk result (IsHeld J.seen J.may_leave journal.new) }
-    ensures strings { OnOk result (recorded (J.seen journal.new.device) ≡ recorded (J.seen journal.old.device) ++ batch.now) }
+    ensures strings { OnOk result (recorded (J.seen journal.new.device) ≡ recorded (J.seen journal.old.device) ++
+        batch.now) }
     ensures any_moment { LeavesOnly J.moment J.left_since journal.old.device journal.new.device
         (IsGrown (recorded (J.seen journal.old.device)) batch.now) }
     // No strings are settled without a call.
     ensures none { batch.now ≡ [] → journal.new ≡ journal.old }
-    ensures device_failed { IsErrOf result NoteError.DeviceFailed → HasRisen (J.failure_count journal.old.device) (J.failure_count journal.new.device) }
+    ensures device_failed { IsErrOf result NoteError.DeviceFailed → HasRisen (J.failure_count journal.old.device)
+        (J.failure_count journal.new.device) }
     // It isn't full where there is room already.
     ensures full { IsErrOf result NoteError.Full
         → HasRoom (J.seen journal.old.device) journal.old.end (length (frames batch.now)) → ⊥ }
@@ -79,8 +83,9 @@ pub fn settle<J: Device>(journal: &mut Journal<J>, batch: &Batch) -> Result<(), 
     Ok(())
 }
 
-/// A replica takes an event, and its journal keeps it as it is then. The inner error is want of memory: the event is left out, and neither the replica nor
-/// its journal has changed. After the outer one, which isn't, the replica and its journal are of no use until the replica is started again.
+/// A replica takes an event, and its journal keeps it as it is then. The inner error is want of memory: the event is
+/// left out, and neither the replica nor its journal has changed. After the outer one, which isn't, the replica and its
+/// journal are of no use until the replica is started again.
 pub fn keep_event<J: Device>(
     alloc: Global,
     replica: &mut Replica<Op>,
@@ -91,7 +96,8 @@ pub fn keep_event<J: Device>(
     // The event makes its step.
     ensures step { IfOk result (λ taken. IfOk taken (λ out.
         given (state replica.new) out ≡ step_of replica.old.count replica.old.index (state replica.old) event)) }
-    ensures left_out { IfOk result (λ taken. OnErr taken ((state replica.new ≡ state replica.old) × (journal.new ≡ journal.old))) }
+    ensures left_out { IfOk result (λ taken. OnErr taken ((state replica.new ≡ state replica.old)
+        × (journal.new ≡ journal.old))) }
     ensures index { replica.new.index ≡ replica.old.index }
     ensures count { replica.new.count ≡ replica.old.count }
     // The journal is settled, and tells the replica as it is now.
@@ -102,9 +108,11 @@ pub fn keep_event<J: Device>(
     ensures any_moment { (t : Told) → IsMemory t (state replica.old) (recorded (J.seen journal.old.device))
         → LeavesOnly J.moment J.left_since journal.old.device journal.new.device
         (λ c. IsMemoryOfTaken t replica.old.count replica.old.index (state replica.old) (event ∷ []) (recorded c)) }
-    ensures device_failed { IsErrOf result NoteError.DeviceFailed → HasRisen (J.failure_count journal.old.device) (J.failure_count journal.new.device) }
+    ensures device_failed { IsErrOf result NoteError.DeviceFailed → HasRisen (J.failure_count journal.old.device)
+        (J.failure_count journal.new.device) }
     // At an error the replica is as it is before the event or after it.
-    ensures late { OnErr result (MakesSome replica.old.count replica.old.index (state replica.old) (event ∷ []) (state replica.new)) }
+    ensures late { OnErr result (MakesSome replica.old.count replica.old.index (state replica.old) (event ∷ [])
+        (state replica.new)) }
     ensures errors { IfErr result (λ e. IsOfKeepingOne e) }
 {
     taken_is_told();
@@ -118,9 +126,9 @@ pub fn keep_event<J: Device>(
     Ok(taken)
 }
 
-/// A replica takes these events, and its journal keeps it as it is then. Each event gives its outputs, or is left out for want of
-/// memory; so is the whole, and then neither the replica nor its journal has changed. After another error of the whole the replica and
-/// its journal are of no use until the replica is started again.
+/// A replica takes these events, and its journal keeps it as it is then. Each event gives its outputs, or is left out
+/// for want of memory; so is the whole, and then neither the replica nor its journal has changed. After another error
+/// of the whole the replica and its journal are of no use until the replica is started again.
 pub fn keep_events<J: Device>(
     alloc: Global,
     replica: &mut Replica<Op>,
@@ -129,7 +137,8 @@ pub fn keep_events<J: Device>(
 ) -> Result<Vec<Result<Outputs<Op>, AllocError>>, NoteError>
     requires { IsHeld J.seen J.may_leave journal.old }
     // Each event makes its step, or is left out.
-    ensures taken { IfOk result (λ taken. IsTaken replica.old.count replica.old.index (state replica.old) events.items taken.items (state replica.new)) }
+    ensures taken { IfOk result (λ taken. IsTaken replica.old.count replica.old.index (state replica.old) events.items
+        taken.items (state replica.new)) }
     ensures index { replica.new.index ≡ replica.old.index }
     ensures count { replica.new.count ≡ replica.old.count }
     // The journal is settled, and tells the replica as it is now.
@@ -140,10 +149,13 @@ pub fn keep_events<J: Device>(
     ensures any_moment { (t : Told) → IsMemory t (state replica.old) (recorded (J.seen journal.old.device))
         → LeavesOnly J.moment J.left_since journal.old.device journal.new.device
         (λ c. IsMemoryOfTaken t replica.old.count replica.old.index (state replica.old) events.items (recorded c)) }
-    ensures no_memory { IsErrOf result NoteError.NoMemory → (state replica.new ≡ state replica.old) × (journal.new ≡ journal.old) }
-    ensures device_failed { IsErrOf result NoteError.DeviceFailed → HasRisen (J.failure_count journal.old.device) (J.failure_count journal.new.device) }
+    ensures no_memory { IsErrOf result NoteError.NoMemory → (state replica.new ≡ state replica.old)
+        × (journal.new ≡ journal.old) }
+    ensures device_failed { IsErrOf result NoteError.DeviceFailed → HasRisen (J.failure_count journal.old.device)
+        (J.failure_count journal.new.device) }
     // At an error the replica is as it is after some first of the events.
-    ensures late { OnErr result (MakesSome replica.old.count replica.old.index (state replica.old) events.items (state replica.new)) }
+    ensures late { OnErr result (MakesSome replica.old.count replica.old.index (state replica.old) events.items
+        (state replica.new)) }
     ensures errors { IfErr result (λ e. IsOfKeeping e) }
 {
     taken_is_told();

@@ -11,8 +11,8 @@ pub fn fields_are_read()
     ensures { FieldsAreRead }
 {}
 
-/// The strings of a batch of events tell what the events make of a replica, and some first of them what some first of the
-/// events make of it.
+/// The strings of a batch of events tell what the events make of a replica, and some first of them what some first of
+/// the events make of it.
 pub fn batches_are_told()
     ensures { BatchesAreTold }
 {

@@ -2,12 +2,14 @@
 //! has a fixed form with a sum that tells damage; which notes a step makes, and what they keep of a
 //! replica, is defined in `vr_state`.
 //!
-//! What the strings say: notes of a replica's steps. `fields` spells and reads a note, with a sum that tells damage. `steps` makes the
-//! notes of a step; of a log that is adopted it writes only what isn't `alike`. `taking` has a replica take a batch of events, `keeping`
-//! settles their notes, `telling` takes them, the oldest first. `opening` takes each as it is read from the device.
+//! What the strings say: notes of a replica's steps. `fields` spells and reads a note, with a sum that tells damage.
+//! `steps` makes the notes of a step; of a log that is adopted it writes only what isn't `alike`. `taking` has a
+//! replica take a batch of events, `keeping` settles their notes, `telling` takes them, the oldest first. `opening`
+//! takes each as it is read from the device.
 //!
-//! Proved: whatever a crash leaves of a batch, the strings tell the replica after some first of its events (`keep_events`). What strings
-//! tell is one thing (`read`, `tell`, `one_is_told`); a note's fields are read back (`read_fields`, `fields_are_read`).
+//! Proved: whatever a crash leaves of a batch, the strings tell the replica after some first of its events
+//! (`keep_events`). What strings tell is one thing (`read`, `tell`, `one_is_told`); a note's fields are read back
+//! (`read_fields`, `fields_are_read`).
 #![tactic(auto)]
 
 mod alike;

@@ -1,5 +1,5 @@
-//! Events that can't have a replica adopt a log: what a step at one of them notes is one string at most. Room for it is reserved before the step, so that
-//! no step is made that can't be noted for want of memory.
+//! Events that can't have a replica adopt a log: what a step at one of them notes is one string at most. Room for it is
+//! reserved before the step, so that no step is made that can't be noted for want of memory.
 ghost use Rattle.std.specs.Prelude.{◌≡◌, ◌≤◌, ◌<◌, ◌⊎◌, ◌+◌, ◌^◌, ◌&&◌, ◌==◌, [], true, map, length, vec_len, vec_capacity, IfErr, IfSome, OnOk};
 ghost use Rattle.journal.specs.Frames.{recorded};
 ghost use Rattle.vr_state.specs.State.{primary};
@@ -84,10 +84,11 @@ fn octets_brought(event: &Event<Op>) -> Option<usize>
     }
 }
 
-/// How many octets the update has, at most, that is noted at an event which can't have the replica adopt a log; none for another event, or where
-/// the update has no spelling.
+/// How many octets the update has, at most, that is noted at an event which can't have the replica adopt a log; none
+/// for another event, or where the update has no spelling.
 pub fn light_room(replica: &Replica<Op>, event: &Event<Op>) -> Option<usize>
-    ensures light { IfSome result (λ room. is_light replica.now.count replica.now.index (state replica.now) event.now ≡ true) }
+    ensures light { IfSome result (λ room. is_light replica.now.count replica.now.index (state replica.now)
+        event.now ≡ true) }
     ensures octets { IfSome result (λ room. HasOctets room (brings event.now)) }
     ensures small { IfSome result (λ room. room < 2 ^ 63) }
 {
@@ -125,8 +126,8 @@ fn put_reserved(
     }
 }
 
-/// Puts what is noted of a step, one string at most, in room that is reserved for it. E29 where the frames would be too long, E3 where an update has no
-/// spelling; nothing else.
+/// Puts what is noted of a step, one string at most, in room that is reserved for it. E29 where the frames would be too
+/// long, E3 where an update has no spelling; nothing else.
 pub fn put_light(
     out: &mut Vec<u8>,
     string: &mut Vec<u8>,
@@ -140,7 +141,8 @@ pub fn put_light(
     requires string_room { 49 + room ≤ vec_capacity string.old }
     requires light { IsNotedByOne before (state replica.now) room }
     ensures framed { IsFramed out.new.items }
-    ensures ok { OnOk result (Puts (map (λ x. Step x) (notes_since before 0 (state replica.now))) (recorded out.old.items) (recorded out.new.items)) }
+    ensures ok { OnOk result (Puts (map (λ x. Step x) (notes_since before 0 (state replica.now)))
+        (recorded out.old.items) (recorded out.new.items)) }
     ensures errors { IfErr result (λ e. IsOfNotingOne e) }
 {
     if !is_normal(replica.status) {

@@ -134,8 +134,8 @@ pub fn put_enter(alloc: Global, batch: &mut Batch, view_number: u64) -> Result<(
     Ok(())
 }
 
-/// Notes that a log was adopted: the first `base` records stay, and those that wait come behind them. At an error nothing has
-/// changed.
+/// Notes that a log was adopted: the first `base` records stay, and those that wait come behind them. At an error
+/// nothing has changed.
 pub fn put_adopt(
     alloc: Global,
     batch: &mut Batch,
@@ -144,7 +144,8 @@ pub fn put_adopt(
     base: u64,
     commit_number: u64,
 ) -> Result<(), NoteError>
-    ensures ok { OnOk result (Puts (Step (Adopt view_number last_normal_view base commit_number) ∷ []) batch.old batch.new) }
+    ensures ok { OnOk result (Puts (Step (Adopt view_number last_normal_view base commit_number) ∷ []) batch.old
+        batch.new) }
     ensures err { OnErr result (batch.new ≡ batch.old) }
     ensures noting { IfErr result (λ e. IsOfNoting e) }
 {

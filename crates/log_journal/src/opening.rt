@@ -1,5 +1,5 @@
-//! Opens a journal: each string is taken as it is read, so that no more of the journal is in memory than a window of it. What stands behind them
-//! is cleared by a call of its own, once nothing else refuses the start.
+//! Opens a journal: each string is taken as it is read, so that no more of the journal is in memory than a window of
+//! it. What stands behind them is cleared by a call of its own, once nothing else refuses the start.
 ghost use Rattle.std.specs.Prelude.{◌≡◌, ◌≢◌, ◌≤◌, [], drop, false, IfOk, IfErr, OnOk, IsErrOf};
 ghost use Rattle.journal.specs.Device.{HasRisen, LeavesOnly, Only};
 ghost use Rattle.journal.specs.Frames.{is_whole, recorded};
@@ -32,7 +32,8 @@ fn note_of_reading(error: JournalError) -> NoteError
     }
 }
 
-/// Reads the next string and takes it; whether there was one. After an error neither what is told nor the reader is of use.
+/// Reads the next string and takes it; whether there was one. After an error neither what is told nor the reader is of
+/// use.
 fn tell_next<J: Device>(
     alloc: Global,
     told: &mut Told,
@@ -41,15 +42,20 @@ fn tell_next<J: Device>(
 ) -> Result<bool, NoteError>
     requires read { HasRead reader.old (J.seen device.old) }
     requires durable { Only (J.seen device.old) (J.may_leave device.old) }
-    ensures told { IfOk result (λ more. TellsNext more reader.old reader.new (told_view told.old) (told_view told.new) (J.seen device.old)) }
+    ensures told { IfOk result (λ more. TellsNext more reader.old reader.new (told_view told.old) (told_view told.new)
+        (J.seen device.old)) }
     ensures read { OnOk result (HasRead reader.new (J.seen device.new)) }
     ensures seen { J.seen device.new ≡ J.seen device.old }
     ensures durable { Only (J.seen device.new) (J.may_leave device.new) }
-    ensures any_moment { LeavesOnly J.moment J.left_since device.old device.new (λ c. recorded c ≡ recorded (J.seen device.old)) }
+    ensures any_moment { LeavesOnly J.moment J.left_since device.old device.new (λ c. recorded c ≡
+        recorded (J.seen device.old)) }
     ensures later { J.failure_count device.old ≤ J.failure_count device.new }
-    ensures device_failed { IsErrOf result NoteError.DeviceFailed → HasRisen (J.failure_count device.old) (J.failure_count device.new) }
-    ensures version { IsErrOf result NoteError.AnotherVersion → HasAnotherVersion (recorded (drop reader.old.end (J.seen device.old))) }
-    ensures damaged { IsErrOf result NoteError.Damaged → HasDamage (recorded (drop reader.old.end (J.seen device.old))) }
+    ensures device_failed { IsErrOf result NoteError.DeviceFailed → HasRisen (J.failure_count device.old)
+        (J.failure_count device.new) }
+    ensures version { IsErrOf result NoteError.AnotherVersion →
+        HasAnotherVersion (recorded (drop reader.old.end (J.seen device.old))) }
+    ensures damaged { IsErrOf result NoteError.Damaged →
+        HasDamage (recorded (drop reader.old.end (J.seen device.old))) }
     ensures errors { IfErr result (λ e. IsOfOpening e) }
 {
     let more = match reader.advance(device) {
@@ -66,7 +72,8 @@ fn tell_next<J: Device>(
     }
 }
 
-/// What the strings of a device tell, the oldest first; the reader stands behind them then. After an error neither is of use.
+/// What the strings of a device tell, the oldest first; the reader stands behind them then. After an error neither is
+/// of use.
 fn tell_all<J: Device>(
     alloc: Global,
     reader: &mut StringReader,
@@ -82,9 +89,11 @@ fn tell_all<J: Device>(
     ensures not_empty { OnOk result (reader.new.end ≢ 0 → recorded (J.seen device.old) ≢ []) }
     ensures seen { J.seen device.new ≡ J.seen device.old }
     ensures durable { Only (J.seen device.new) (J.may_leave device.new) }
-    ensures any_moment { LeavesOnly J.moment J.left_since device.old device.new (λ c. recorded c ≡ recorded (J.seen device.old)) }
+    ensures any_moment { LeavesOnly J.moment J.left_since device.old device.new (λ c. recorded c ≡
+        recorded (J.seen device.old)) }
     ensures later { J.failure_count device.old ≤ J.failure_count device.new }
-    ensures device_failed { IsErrOf result NoteError.DeviceFailed → HasRisen (J.failure_count device.old) (J.failure_count device.new) }
+    ensures device_failed { IsErrOf result NoteError.DeviceFailed → HasRisen (J.failure_count device.old)
+        (J.failure_count device.new) }
     ensures version { IsErrOf result NoteError.AnotherVersion → HasAnotherVersion (recorded (J.seen device.old)) }
     ensures damaged { IsErrOf result NoteError.Damaged → HasDamage (recorded (J.seen device.old)) }
     ensures errors { IfErr result (λ e. IsOfOpening e) }
@@ -102,9 +111,9 @@ fn tell_all<J: Device>(
     }
 }
 
-/// Reads a journal: what its strings tell; nothing, where it has none; and a reader behind them. Nothing is written. Want of memory and
-/// E21 come as growths and calls of the device fail; E28 where a string is no note, E27 where a note of another version says whose the
-/// journal is.
+/// Reads a journal: what its strings tell; nothing, where it has none; and a reader behind them. Nothing is written.
+/// Want of memory and E21 come as growths and calls of the device fail; E28 where a string is no note, E27 where a note
+/// of another version says whose the journal is.
 pub fn read<J: Device>(
     alloc: Global,
     journal: &mut Journal<J>,
@@ -121,7 +130,8 @@ pub fn read<J: Device>(
     ensures later { J.failure_count journal.old.device ≤ J.failure_count journal.new.device }
     ensures device_failed { IsErrOf result NoteError.DeviceFailed
         → HasRisen (J.failure_count journal.old.device) (J.failure_count journal.new.device) }
-    ensures version { IsErrOf result NoteError.AnotherVersion → HasAnotherVersion (recorded (J.seen journal.old.device)) }
+    ensures version { IsErrOf result NoteError.AnotherVersion →
+        HasAnotherVersion (recorded (J.seen journal.old.device)) }
     ensures damaged { IsErrOf result NoteError.Damaged → HasDamage (recorded (J.seen journal.old.device)) }
     ensures errors { IfErr result (λ e. IsOfOpening e) }
 {
@@ -137,8 +147,8 @@ pub fn read<J: Device>(
     }
 }
 
-/// Clears what stands behind the strings that were read; the journal may be written to then. A crash at any moment of the call leaves
-/// the same strings. Out of memory, nothing is written; E21 comes where the device fails.
+/// Clears what stands behind the strings that were read; the journal may be written to then. A crash at any moment of
+/// the call leaves the same strings. Out of memory, nothing is written; E21 comes where the device fails.
 pub fn clear<J: Device>(
     alloc: Global,
     journal: &mut Journal<J>,

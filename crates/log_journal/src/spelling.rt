@@ -1,4 +1,5 @@
-//! Octets of updates that are read as the same update again, and whether two updates are equal. An update in memory may be one that no octets spell.
+//! Octets of updates that are read as the same update again, and whether two updates are equal. An update in memory may
+//! be one that no octets spell.
 ghost use Rattle.std.specs.Prelude.{◌≡◌, ◌<◌, ◌^◌, length, IsTrue, IfOk, IfErr, IfSome};
 ghost use Rattle.std.specs.Bool.{OnFalse};
 ghost use Rattle.ldap_op.specs.Grammar.{IsOp};
@@ -20,7 +21,8 @@ pub fn spell(op: &Op) -> Result<&[u8], NoteError>
     }
 }
 
-/// Whether two updates are found equal, by their octets. Equal ones may not be found so, where no octets are read as them.
+/// Whether two updates are found equal, by their octets. Equal ones may not be found so, where no octets are read as
+/// them.
 pub fn is_same(one: &Op, other: &Op) -> bool
     ensures same { IsTrue result → one.now ≡ other.now }
     ensures apart { OnFalse result (AreUpdatesApart one.now other.now) }

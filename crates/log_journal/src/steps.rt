@@ -157,8 +157,8 @@ fn only_grew(before: Before, replica: &Replica<Op>) -> bool
     before.is_normal && (before.view_number == replica.view_number && !before.brings_tail)
 }
 
-/// Notes a step, after which a replica is as it is here, and has its first `base` records as they were. At an error some of its
-/// notes may be there.
+/// Notes a step, after which a replica is as it is here, and has its first `base` records as they were. At an error
+/// some of its notes may be there.
 pub fn put_step(
     alloc: Global,
     batch: &mut Batch,
@@ -167,7 +167,8 @@ pub fn put_step(
     replica: &Replica<Op>,
 ) -> Result<(), NoteError>
     requires { base ≤ length replica.now.log }
-    ensures ok { OnOk result (Puts (map (λ x. Step x) (notes_since before base (state replica.now))) batch.old batch.new) }
+    ensures ok { OnOk result (Puts (map (λ x. Step x) (notes_since before base (state replica.now))) batch.old
+        batch.new) }
     ensures errors { IfErr result (λ e. IsOfNoting e) }
 {
     if !is_normal(replica.status) {

@@ -22,8 +22,9 @@ use vr_state::event::Event;
 use vr_state::message::Outputs;
 use vr_state::replica::Replica;
 
-/// A replica takes an event that can't have it adopt a log, and whose update has so many octets at most. The inner error is want of memory: the
-/// event is left out then, and nothing has changed. After the outer one the replica has made its step, and it isn't noted.
+/// A replica takes an event that can't have it adopt a log, and whose update has so many octets at most. The inner
+/// error is want of memory: the event is left out then, and nothing has changed. After the outer one the replica has
+/// made its step, and it isn't noted.
 fn take_light(
     alloc: Global,
     replica: &mut Replica<Op>,
@@ -34,10 +35,12 @@ fn take_light(
     requires light { is_light replica.old.count replica.old.index (state replica.old) event ≡ true }
     requires octets { HasOctets room (brings event) }
     requires small { room < 2 ^ 63 }
-    ensures taken { IfOk result (λ taken. Takes replica.old.count replica.old.index (state replica.old) event taken (state replica.new) batch.old batch.new) }
+    ensures taken { IfOk result (λ taken. Takes replica.old.count replica.old.index (state replica.old) event taken
+        (state replica.new) batch.old batch.new) }
     ensures index { replica.new.index ≡ replica.old.index }
     ensures count { replica.new.count ≡ replica.old.count }
-    ensures stepped { OnErr result (state replica.new ≡ (step_of replica.old.count replica.old.index (state replica.old) event).state) }
+    ensures stepped { OnErr result (state replica.new ≡ (step_of replica.old.count replica.old.index
+        (state replica.old) event).state) }
     ensures errors { IfErr result (λ e. IsOfNotingOne e) }
 {
     let before = Before::of(replica, &event);
@@ -66,7 +69,8 @@ fn put_apart(
     replica: &Replica<Op>,
 ) -> Result<(), NoteError>
     requires { base ≤ length replica.now.log }
-    ensures ok { OnOk result (Puts (map (λ x. Step x) (notes_since before base (state replica.now))) batch.old batch.new) }
+    ensures ok { OnOk result (Puts (map (λ x. Step x) (notes_since before base (state replica.now))) batch.old
+        batch.new) }
     ensures err { OnErr result (batch.new ≡ batch.old) }
     ensures errors { IfErr result (λ e. IsOfNoting e) }
 {
@@ -76,19 +80,21 @@ fn put_apart(
     Ok(())
 }
 
-/// A replica takes an event that may have it adopt a log. Where its step can't be noted for want of memory, the replica is put back as it was. The
-/// inner error is want of memory: the event is left out then, and nothing has changed. After the outer one the replica has made its step, and it
-/// isn't noted.
+/// A replica takes an event that may have it adopt a log. Where its step can't be noted for want of memory, the replica
+/// is put back as it was. The inner error is want of memory: the event is left out then, and nothing has changed. After
+/// the outer one the replica has made its step, and it isn't noted.
 fn take_heavy(
     alloc: Global,
     replica: &mut Replica<Op>,
     batch: &mut Batch,
     event: Event<Op>,
 ) -> Result<Result<Outputs<Op>, AllocError>, NoteError>
-    ensures taken { IfOk result (λ taken. Takes replica.old.count replica.old.index (state replica.old) event taken (state replica.new) batch.old batch.new) }
+    ensures taken { IfOk result (λ taken. Takes replica.old.count replica.old.index (state replica.old) event taken
+        (state replica.new) batch.old batch.new) }
     ensures index { replica.new.index ≡ replica.old.index }
     ensures count { replica.new.count ≡ replica.old.count }
-    ensures stepped { OnErr result (state replica.new ≡ (step_of replica.old.count replica.old.index (state replica.old) event).state) }
+    ensures stepped { OnErr result (state replica.new ≡ (step_of replica.old.count replica.old.index
+        (state replica.old) event).state) }
     ensures errors { IfErr result (λ e. IsOfNotingOne e) }
 {
     let before = Before::of(replica, &event);
@@ -111,18 +117,20 @@ fn take_heavy(
     }
 }
 
-/// A replica takes an event. The inner error is want of memory: the event is left out then, and nothing has changed. The outer one isn't; after it
-/// the replica has made its step, and it isn't noted.
+/// A replica takes an event. The inner error is want of memory: the event is left out then, and nothing has changed.
+/// The outer one isn't; after it the replica has made its step, and it isn't noted.
 pub fn take_event(
     alloc: Global,
     replica: &mut Replica<Op>,
     batch: &mut Batch,
     event: Event<Op>,
 ) -> Result<Result<Outputs<Op>, AllocError>, NoteError>
-    ensures taken { IfOk result (λ taken. Takes replica.old.count replica.old.index (state replica.old) event taken (state replica.new) batch.old batch.new) }
+    ensures taken { IfOk result (λ taken. Takes replica.old.count replica.old.index (state replica.old) event taken
+        (state replica.new) batch.old batch.new) }
     ensures index { replica.new.index ≡ replica.old.index }
     ensures count { replica.new.count ≡ replica.old.count }
-    ensures stepped { OnErr result (state replica.new ≡ (step_of replica.old.count replica.old.index (state replica.old) event).state) }
+    ensures stepped { OnErr result (state replica.new ≡ (step_of replica.old.count replica.old.index
+        (state replica.old) event).state) }
     ensures errors { IfErr result (λ e. IsOfNotingOne e) }
 {
     match light_room(replica, &event) {
@@ -131,20 +139,24 @@ pub fn take_event(
     }
 }
 
-/// A replica takes these events, one after another. Each gives its outputs, or is left out for want of memory; so is the whole, and then nothing has
-/// changed. After another error the replica has made steps that aren't noted, and is of no use.
+/// A replica takes these events, one after another. Each gives its outputs, or is left out for want of memory; so is
+/// the whole, and then nothing has changed. After another error the replica has made steps that aren't noted, and is of
+/// no use.
 pub fn take_events(
     alloc: Global,
     replica: &mut Replica<Op>,
     batch: &mut Batch,
     events: Vec<Event<Op>>,
 ) -> Result<Vec<Result<Outputs<Op>, AllocError>>, NoteError>
-    ensures taken { IfOk result (λ taken. TakesAll replica.old.count replica.old.index (state replica.old) events.items taken.items (state replica.new) batch.old batch.new) }
+    ensures taken { IfOk result (λ taken. TakesAll replica.old.count replica.old.index (state replica.old)
+        events.items taken.items (state replica.new) batch.old batch.new) }
     ensures index { replica.new.index ≡ replica.old.index }
     ensures count { replica.new.count ≡ replica.old.count }
-    ensures stepped { OnErr result (MakesSome replica.old.count replica.old.index (state replica.old) events.items (state replica.new)) }
+    ensures stepped { OnErr result (MakesSome replica.old.count replica.old.index (state replica.old) events.items
+        (state replica.new)) }
     ensures errors { IfErr result (λ e. IsOfNoting e) }
-    ensures no_memory { IsErrOf result NoteError.NoMemory → (state replica.new ≡ state replica.old) × (batch.new ≡ batch.old) }
+    ensures no_memory { IsErrOf result NoteError.NoMemory → (state replica.new ≡ state replica.old)
+        × (batch.new ≡ batch.old) }
 {
     let mut all = Vec::with_capacity(alloc, events.len())?;
     for event in events {

@@ -62,7 +62,8 @@ fn is_plain(fields: &Fields<'_>) -> bool
     ensures plain { IsTrue result → fields_view fields.now
         ≡ plain fields.now.kind fields.now.first fields.now.second fields.now.third fields.now.fourth 0 }
     ensures only { fields_view fields.now
-        ≡ plain fields.now.kind fields.now.first fields.now.second fields.now.third fields.now.fourth 0 → IsTrue result }
+        ≡ plain fields.now.kind fields.now.first fields.now.second fields.now.third fields.now.fourth 0 →
+        IsTrue result }
 {
     fields.fifth == 0 && fields.rest.is_empty()
 }
@@ -247,8 +248,8 @@ fn take_fields(alloc: Global, told: &mut Told, fields: &Fields<'_>) -> Result<()
     }
 }
 
-/// Takes the note of a string. E27 where it is of another version, E28 where it is no note, else want of memory is the only
-/// error; after an error what is told is of no use.
+/// Takes the note of a string. E27 where it is of another version, E28 where it is no note, else want of memory is the
+/// only error; after an error what is told is of no use.
 pub fn take_string(alloc: Global, told: &mut Told, string: &[u8]) -> Result<(), NoteError>
     ensures taken { OnOk result (TakesString string.now (told_view told.old) (told_view told.new)) }
     ensures version { IsErrOf result NoteError.AnotherVersion → IsOfAnotherVersion string.now }
@@ -262,8 +263,8 @@ pub fn take_string(alloc: Global, told: &mut Told, string: &[u8]) -> Result<(), 
     }
 }
 
-/// What these strings tell, the oldest first. E27 where one of them is of another version, E28 where one is no note, else want of
-/// memory is the only error.
+/// What these strings tell, the oldest first. E27 where one of them is of another version, E28 where one is no note,
+/// else want of memory is the only error.
 pub fn tell(alloc: Global, strings: &[Vec<u8>]) -> Result<Told, NoteError>
     ensures told { IfOk result (λ told. Tells nothing_told (octets_of strings.now) (told_view told)) }
     ensures version { IsErrOf result NoteError.AnotherVersion → HasAnotherVersion (octets_of strings.now) }

@@ -14,8 +14,8 @@ use std::marker::Model;
 use std::sync::Wait;
 use std::time::{Clock, Duration, Instant};
 
-/// The codes of answers that no directory gave (RFC 4511 4.1.9): the state that was named isn't there yet, there is no state any more, a client
-/// has made a later request, and any other error.
+/// The codes of answers that no directory gave (RFC 4511 4.1.9): the state that was named isn't there yet, there is no
+/// state any more, a client has made a later request, and any other error.
 const BUSY: u64 = 51;
 
 const UNAVAILABLE: u64 = 52;
@@ -42,7 +42,8 @@ fn code_of_end(ended: &Ended) -> u64 {
     }
 }
 
-/// A directory whose answers are counted, and whose updates and slow searches are logged. Contracts see it as that directory.
+/// A directory whose answers are counted, and whose updates and slow searches are logged. Contracts see it as that
+/// directory.
 #[derive(Drop)]
 pub struct Logged<'a, R, D> {
     rt: &'a R,
@@ -61,7 +62,8 @@ impl<'a, R, D> Model for Logged<'a, R, D> {
 }
 
 impl<'a, R, D> Logged<'a, R, D> {
-    /// A directory of which this is logged, to this reporter, and which is counted so; whether it is asked for updates alone.
+    /// A directory of which this is logged, to this reporter, and which is counted so; whether it is asked for updates
+    /// alone.
     pub fn new(
         rt: &'a R,
         reporter: &'a Reporter,

@@ -1,5 +1,5 @@
-//! A node with a journal, driven by one thread: it takes all events that wait at once, so that one sync settles them all, and only
-//! then shows the seats what was executed and hands over what is sent.
+//! A node with a journal, driven by one thread: it takes all events that wait at once, so that one sync settles them
+//! all, and only then shows the seats what was executed and hands over what is sent.
 ghost use Rattle.std.specs.Prelude.{◌≡◌, ◌∷◌, [], IfErr, IfNone, IfOk, IfSome, MatchOption, OnOk, Some};
 ghost use Rattle.dir_node.specs.vr_state.declared.event.Event.TheVariants as event;
 ghost use Rattle.node_gate.specs.Batches.{left_out, left_out_in, sends_at, sends_in, sends_of};
@@ -101,9 +101,11 @@ fn take_all<R: Wait, D: Device, J: JournalDevice, I: NodeIdentity, P: Peers>(
     events: Vec<Event<Op>>,
     beat_at: Option<usize>,
 ) -> Result<(Batched, Option<LastBeat<I>>), NodeError>
-    ensures stepped { IfOk result (λ done. HasSteppedAll P.takes events.items done.0.outputs.value.items held.old.published.node held.new.published.node peers.old peers.new) }
+    ensures stepped { IfOk result (λ done. HasSteppedAll P.takes events.items done.0.outputs.value.items
+        held.old.published.node held.new.published.node peers.old peers.new) }
     ensures left_out { IfOk result (λ done. done.0.left_out ≡ left_out done.0.outputs.value.items) }
-    ensures refused { IfErr result (λ e. HasRefused events.items e held.old.published.node held.new.published.node peers.old peers.new) }
+    ensures refused { IfErr result (λ e. HasRefused events.items e held.old.published.node held.new.published.node
+        peers.old peers.new) }
 {
     let place = place_of_beat(events.as_slice(), beat_at);
     let handled = held.handle_all(alloc, events)?;
@@ -132,8 +134,9 @@ impl<'a, R: Wait, D: Device, J: JournalDevice, I: NodeIdentity> SharedNode<'a, R
         self.held.lock(rt).node().is_caught_up()
     }
 
-    /// Hands an event to the node, or posts it where a thread drives the node; which of the events that were posted it is, from 1 on,
-    /// and 0 where none are. Its errors are the node's. For clauses alone it gives the event, and what that made of the node where it wasn't posted.
+    /// Hands an event to the node, or posts it where a thread drives the node; which of the events that were posted it
+    /// is, from 1 on, and 0 where none are. Its errors are the node's. For clauses alone it gives the event, and what
+    /// that made of the node where it wasn't posted.
     pub fn give<P: Peers>(
         &self,
         rt: &R,
@@ -143,9 +146,12 @@ impl<'a, R: Wait, D: Device, J: JournalDevice, I: NodeIdentity> SharedNode<'a, R
     ) -> (Result<u64, NodeError>, Handed<D, J>)
         ensures given { result.1.event.value ≡ event }
         ensures own { IfSome result.1.moved (λ m. AreOf I.own m.before.value m.after.value) }
-        ensures stepped { OnOk result.0 (IfSome result.1.moved (λ m. HasStepped P.takes event m.before.value m.after.value peers.old peers.new)) }
-        ensures refused { IfErr result.0 (λ e. IfSome result.1.moved (λ m. HasRefused (event ∷ []) e m.before.value m.after.value peers.old peers.new)) }
-        ensures posted { MatchOption result.1.moved (peers.new ≡ peers.old) (λ m. IfOk result.0 (λ number. number ≡ 0)) }
+        ensures stepped { OnOk result.0 (IfSome result.1.moved (λ m. HasStepped P.takes event m.before.value
+            m.after.value peers.old peers.new)) }
+        ensures refused { IfErr result.0 (λ e. IfSome result.1.moved (λ m. HasRefused (event ∷ []) e m.before.value
+            m.after.value peers.old peers.new)) }
+        ensures posted { MatchOption result.1.moved (peers.new ≡ peers.old)
+            (λ m. IfOk result.0 (λ number. number ≡ 0)) }
     {
         let given = Snapshot::of(&event);
         match &self.inbox {
@@ -173,8 +179,8 @@ impl<'a, R: Wait, D: Device, J: JournalDevice, I: NodeIdentity> SharedNode<'a, R
         }
     }
 
-    /// Hands the message of another replica to the node, or posts it where a thread drives the node. For clauses alone it gives what the message made
-    /// of the node where it wasn't posted.
+    /// Hands the message of another replica to the node, or posts it where a thread drives the node. For clauses alone
+    /// it gives what the message made of the node where it wasn't posted.
     pub fn give_message<P: Peers>(
         &self,
         rt: &R,
@@ -184,8 +190,11 @@ impl<'a, R: Wait, D: Device, J: JournalDevice, I: NodeIdentity> SharedNode<'a, R
     ) -> (Result<(), NodeError>, Option<Moved<D, J>>)
         ensures own { IfSome result.1 (λ m. AreOf I.own m.before.value m.after.value) }
         ensures stepped { OnOk result.0 (IfSome result.1
-            (λ m. HasStepped P.takes (event.Message arrival.from arrival.message) m.before.value m.after.value peers.old peers.new)) }
-        ensures refused { IfErr result.0 (λ e. IfSome result.1 (λ m. HasRefused (event.Message arrival.from arrival.message ∷ []) e m.before.value m.after.value peers.old peers.new)) }
+            (λ m. HasStepped P.takes (event.Message arrival.from arrival.message) m.before.value m.after.value
+            peers.old peers.new)) }
+        ensures refused { IfErr result.0
+            (λ e. IfSome result.1 (λ m. HasRefused (event.Message arrival.from arrival.message ∷ []) e m.before.value
+            m.after.value peers.old peers.new)) }
         ensures posted { IfNone result.1 (peers.new ≡ peers.old) }
     {
         match &self.inbox {
@@ -200,8 +209,9 @@ impl<'a, R: Wait, D: Device, J: JournalDevice, I: NodeIdentity> SharedNode<'a, R
         }
     }
 
-    /// What the node makes of another replica's message that leaves out so many of the first records of its log: the whole message, or nothing where the
-    /// node hasn't committed as many. It gives the node as the lock held it, for clauses alone. Its only error is want of memory.
+    /// What the node makes of another replica's message that leaves out so many of the first records of its log: the
+    /// whole message, or nothing where the node hasn't committed as many. It gives the node as the lock held it, for
+    /// clauses alone. Its only error is want of memory.
     pub fn fill(
         &self,
         rt: &R,
@@ -213,7 +223,8 @@ impl<'a, R: Wait, D: Device, J: JournalDevice, I: NodeIdentity> SharedNode<'a, R
         Snapshot<Node<D, J>>,
     )
         ensures own { identity_of result.1.value ≡ I.own }
-        ensures filled { IfOk result.0 (λ taken. taken ≡ taken_as left_out result.1.value.replica.commit_number result.1.value.replica.log message) }
+        ensures filled { IfOk result.0 (λ taken. taken ≡ taken_as left_out result.1.value.replica.commit_number
+            result.1.value.replica.log message) }
     {
         let held = self.held.lock(rt);
         let node = held.node();
@@ -221,8 +232,8 @@ impl<'a, R: Wait, D: Device, J: JournalDevice, I: NodeIdentity> SharedNode<'a, R
         (taken, Snapshot::of(node))
     }
 
-    /// Parts of a long message were taken by the replica of this index, at this moment; whether the clock was told of it: not where another thread has the
-    /// node just then.
+    /// Parts of a long message were taken by the replica of this index, at this moment; whether the clock was told of
+    /// it: not where another thread has the node just then.
     pub fn hear_taken(&self, to: u64, now: u64) -> bool {
         match self.held.try_lock() {
             Some(mut held) => {
@@ -238,9 +249,9 @@ impl<'a, R: Wait, D: Device, J: JournalDevice, I: NodeIdentity> SharedNode<'a, R
         self.inbox.as_ref()?.take(rt, alloc)
     }
 
-    /// Hands a batch of events to the node, which shows the seats what it then has executed; hands over what the steps send, in the
-    /// order of the steps; and tells those who wait. Its errors are the node's. It gives the node as the lock held it before the batch and after it, for
-    /// clauses alone.
+    /// Hands a batch of events to the node, which shows the seats what it then has executed; hands over what the steps
+    /// send, in the order of the steps; and tells those who wait. Its errors are the node's. It gives the node as the
+    /// lock held it before the batch and after it, for clauses alone.
     pub fn handle_batch<P: Peers>(
         &self,
         rt: &R,
@@ -250,9 +261,11 @@ impl<'a, R: Wait, D: Device, J: JournalDevice, I: NodeIdentity> SharedNode<'a, R
         now: u64,
     ) -> (Result<Batched, NodeError>, Moved<D, J>)
         ensures own { AreOf I.own result.1.before.value result.1.after.value }
-        ensures stepped { IfOk result.0 (λ done. HasSteppedAll P.takes batch.events.items done.outputs.value.items result.1.before.value result.1.after.value peers.old peers.new) }
+        ensures stepped { IfOk result.0 (λ done. HasSteppedAll P.takes batch.events.items done.outputs.value.items
+            result.1.before.value result.1.after.value peers.old peers.new) }
         ensures left_out { IfOk result.0 (λ done. done.left_out ≡ left_out done.outputs.value.items) }
-        ensures refused { IfErr result.0 (λ e. HasRefused batch.events.items e result.1.before.value result.1.after.value peers.old peers.new) }
+        ensures refused { IfErr result.0 (λ e. HasRefused batch.events.items e result.1.before.value
+            result.1.after.value peers.old peers.new) }
     {
         let EventBatch {
             events,
@@ -291,8 +304,8 @@ impl<'a, R: Wait, D: Device, J: JournalDevice, I: NodeIdentity> SharedNode<'a, R
         }
     }
 
-    /// Asks the node's clock, at this moment, and posts what is due: what was due, what the node does, and what its last beat has sent, where that wasn't
-    /// taken yet. None, where another thread has the node just then.
+    /// Asks the node's clock, at this moment, and posts what is due: what was due, what the node does, and what its
+    /// last beat has sent, where that wasn't taken yet. None, where another thread has the node just then.
     pub(crate) fn tick_beside(
         &self,
         rt: &R,

@@ -17,9 +17,11 @@ pub fn handle_node<D: Device, J: JournalDevice>(
     event: Event<Op>,
 ) -> Result<Handled, NodeError>
     ensures begins { IsBeginning node.old.executed node.new.executed }
-    ensures step { IfOk result (λ h. given node.new.replica h.outputs ≡ step_of node.old.count node.old.index node.old.replica event) }
+    ensures step { IfOk result (λ h. given node.new.replica h.outputs ≡ step_of node.old.count node.old.index
+        node.old.replica event) }
     ensures executed { IfOk result (λ h. CatchesUp h.behind node.old.executed.records
-        (due_after (length node.old.executed.records) node.new.replica.commit_number node.new.replica.log) node.new.executed.records) }
+        (due_after (length node.old.executed.records) node.new.replica.commit_number node.new.replica.log)
+        node.new.executed.records) }
     ensures same { IsSameNode node.old node.new }
     ensures refused { IfErr result (λ e. IsLeftBy (event ∷ []) e node.old node.new) }
 {
@@ -33,9 +35,11 @@ pub fn handle_node_all<D: Device, J: JournalDevice>(
     events: Vec<Event<Op>>,
 ) -> Result<AllHandled, NodeError>
     ensures begins { IsBeginning node.old.executed node.new.executed }
-    ensures steps { IfOk result (λ h. MakesSteps node.old.count node.old.index node.old.replica events.items h.outputs.items node.new.replica) }
+    ensures steps { IfOk result (λ h. MakesSteps node.old.count node.old.index node.old.replica events.items
+        h.outputs.items node.new.replica) }
     ensures executed { IfOk result (λ h. CatchesUp h.behind node.old.executed.records
-        (due_after (length node.old.executed.records) node.new.replica.commit_number node.new.replica.log) node.new.executed.records) }
+        (due_after (length node.old.executed.records) node.new.replica.commit_number node.new.replica.log)
+        node.new.executed.records) }
     ensures same { IsSameNode node.old node.new }
     ensures refused { IfErr result (λ e. IsLeftBy events.items e node.old node.new) }
 {
@@ -46,7 +50,8 @@ pub fn handle_node_all<D: Device, J: JournalDevice>(
 pub fn execute_node<D: Device, J: JournalDevice>(alloc: Global, node: &mut Node<D, J>) -> bool
     ensures begins { IsBeginning node.old.executed node.new.executed }
     ensures executed { CatchesUp result node.old.executed.records
-        (due_after (length node.old.executed.records) node.old.replica.commit_number node.old.replica.log) node.new.executed.records }
+        (due_after (length node.old.executed.records) node.old.replica.commit_number node.old.replica.log)
+        node.new.executed.records }
     ensures nothing_else { node.new ≡ record node.old { executed = node.new.executed } }
     ensures same { IsSameNode node.old node.new }
 {

@@ -28,8 +28,8 @@ pub struct NodeGate<'a, 'r, R: Wait, D: Device, J: JournalDevice, I: NodeIdentit
     /// Whether the client has left whose update is waited for.
     has_left: &'a AtomicBool,
     asked: u64,
-    /// The event that was given for the last update, if one was, what it made of the node where it wasn't posted, and the node as the lock held it when
-    /// that update had ended: for clauses alone.
+    /// The event that was given for the last update, if one was, what it made of the node where it wasn't posted, and
+    /// the node as the lock held it when that update had ended: for clauses alone.
     given: Option<Snapshot<Event<Op>>>,
     moved: Option<Moved<D, J>>,
     held: Option<Snapshot<Node<D, J>>>,
@@ -119,10 +119,12 @@ impl<'a, 'r, R: Wait, D: Device, J: JournalDevice, I: NodeIdentity, P: Peers> No
     I,
     P,
 > {
-    /// Hands a request to the node, and waits for its outcome, or until its client has left: then it counts as lost, and goes on.
+    /// Hands a request to the node, and waits for its outcome, or until its client has left: then it counts as lost,
+    /// and goes on.
     fn ask(&mut self, alloc: Global, client: Client, number: u64, payload: Op) -> Ended
         ensures given { option_map (λ s. s.value) self.new.given ≡ Some (request_of client number payload) }
-        ensures made { GivesRequest I.own (option_map (λ m. (m.before.value, m.after.value)) self.new.moved) (request_of client number payload) }
+        ensures made { GivesRequest I.own (option_map (λ m. (m.before.value, m.after.value)) self.new.moved)
+            (request_of client number payload) }
         ensures ended { IsUpdated I.own (option_map (λ s. s.value) self.new.held) client number (ended_view result) }
         ensures asked { self.new.asked ≡ self.old.asked }
     {
@@ -164,10 +166,11 @@ impl<'a, 'r, R: Wait, D: Device, J: JournalDevice, I: NodeIdentity, P: Peers> Ga
     ghost use Rattle.dir_seats.specs.directory_api.Counting.{updates_of, greatest_count};
     ghost use Rattle.node_gate.specs.private.Shared.{gates};
 
-    // What is given to the node is the request that was asked, and an update ends as its outcome at a state of the node with this identity that the lock
-    // held; the count rises by one with each.
+    // What is given to the node is the request that was asked, and an update ends as its outcome at a state of the node
+    // with this identity that the lock held; the count rises by one with each.
     ghost allows = { λ d x e. (e.asked ≡ min (d.asked + updates_of x) greatest_count)
-        × gates I.own (option_map (λ s. s.value) e.given) (option_map (λ m. (m.before.value, m.after.value)) e.moved) (option_map (λ s. s.value) e.held) x };
+        × gates I.own (option_map (λ s. s.value) e.given) (option_map (λ m. (m.before.value, m.after.value)) e.moved)
+        (option_map (λ s. s.value) e.held) x };
 
     ghost count = { λ d. d.asked };
 

@@ -1,4 +1,5 @@
-// What the lock holds: the node that threads share, its clock, and whether those who wait are to go on. Locks and threads are above.
+// What the lock holds: the node that threads share, its clock, and whether those who wait are to go on. Locks and
+// threads are above.
 ghost use Rattle.std.specs.Prelude.{◌≡◌, ◌∷◌, [], IfOk, IfErr};
 ghost use Rattle.dir_node.specs.vr_state.declared.event.Event.TheVariants as event;
 ghost use Rattle.node_gate.specs.Moved.{IsLeftBy};
@@ -117,8 +118,8 @@ impl<'a, R: Wait, D: Device, J: JournalDevice, I: NodeIdentity> LockedNode<'a, R
         }
     }
 
-    /// How the node stands to sessions: one that went on from its journal is as one that recovers, until it has committed as much
-    /// as it may have shown before.
+    /// How the node stands to sessions: one that went on from its journal is as one that recovers, until it has
+    /// committed as much as it may have shown before.
     pub fn standing(&self) -> Standing
         ensures { result ≡ standing_to_sessions self.now.published.node }
     {
@@ -135,9 +136,11 @@ impl<'a, R: Wait, D: Device, J: JournalDevice, I: NodeIdentity> LockedNode<'a, R
         self.clock.ask_at()
     }
 
-    /// Hands an event to the node, and shows its seats what it then has executed. It is behind too where there was no memory to show all.
+    /// Hands an event to the node, and shows its seats what it then has executed. It is behind too where there was no
+    /// memory to show all.
     pub fn handle(&mut self, alloc: Global, event: Event<Op>) -> Result<Handled, NodeError>
-        ensures handled { IfOk result (λ h. HasHandled self.old.published.node event h self.new.published.node self.new.published.publisher) }
+        ensures handled { IfOk result (λ h. HasHandled self.old.published.node event h self.new.published.node
+            self.new.published.publisher) }
         ensures refused { IfErr result (λ e. IsLeftBy (event ∷ []) e self.old.published.node self.new.published.node) }
     {
         let handled = self.published.handle(alloc, event)?;
@@ -145,14 +148,15 @@ impl<'a, R: Wait, D: Device, J: JournalDevice, I: NodeIdentity> LockedNode<'a, R
         Ok(handled)
     }
 
-    /// Hands a batch of events to the node, and shows its seats what it then has executed. It is behind too where there was no
-    /// memory to show all.
+    /// Hands a batch of events to the node, and shows its seats what it then has executed. It is behind too where there
+    /// was no memory to show all.
     pub fn handle_all(
         &mut self,
         alloc: Global,
         events: Vec<Event<Op>>,
     ) -> Result<AllHandled, NodeError>
-        ensures handled { IfOk result (λ h. HasHandledAll self.old.published.node events.items h self.new.published.node self.new.published.publisher) }
+        ensures handled { IfOk result (λ h. HasHandledAll self.old.published.node events.items h
+            self.new.published.node self.new.published.publisher) }
         ensures refused { IfErr result (λ e. IsLeftBy events.items e self.old.published.node self.new.published.node) }
     {
         let handled = self.published.handle_all(alloc, events)?;
@@ -172,8 +176,10 @@ impl<'a, R: Wait, D: Device, J: JournalDevice, I: NodeIdentity> LockedNode<'a, R
 
     /// Hands the message of another replica to the node, and tells its clock of it.
     pub fn hear(&mut self, alloc: Global, arrival: Arrival) -> Result<Handled, NodeError>
-        ensures handled { IfOk result (λ h. HasHandled self.old.published.node (event.Message arrival.from arrival.message) h self.new.published.node self.new.published.publisher) }
-        ensures refused { IfErr result (λ e. IsLeftBy (event.Message arrival.from arrival.message ∷ []) e self.old.published.node self.new.published.node) }
+        ensures handled { IfOk result (λ h. HasHandled self.old.published.node
+            (event.Message arrival.from arrival.message) h self.new.published.node self.new.published.publisher) }
+        ensures refused { IfErr result (λ e. IsLeftBy (event.Message arrival.from arrival.message ∷ []) e
+            self.old.published.node self.new.published.node) }
     {
         let Arrival { from, message, at } = arrival;
         let sign = sign_of(&message);
@@ -205,8 +211,8 @@ impl<'a, R: Wait, D: Device, J: JournalDevice, I: NodeIdentity> LockedNode<'a, R
         self.clock.ask(now)
     }
 
-    /// The clock is told what the node does. Where all of a primary's records are committed and no message has told the backups so, the next beat comes
-    /// soon; the PREPARE of a later record would tell them itself.
+    /// The clock is told what the node does. Where all of a primary's records are committed and no message has told the
+    /// backups so, the next beat comes soon; the PREPARE of a later record would tell them itself.
     pub fn note(&mut self, now: u64)
         ensures published { self.new.published ≡ self.old.published }
     {

@@ -1,8 +1,9 @@
 // Which node threads share, for proofs alone. No value of it exists. How a replica starts is decided in `opening`.
 use std::marker::Brand;
 
-/// Which node threads share: which start of which replica, over which schema, root and index choice. Whoever has opened a node
-/// calls what runs its threads with `Brand`, and the proof of that call picks the identity of the node that was opened.
+/// Which node threads share: which start of which replica, over which schema, root and index choice. Whoever has opened
+/// a node calls what runs its threads with `Brand`, and the proof of that call picks the identity of the node that was
+/// opened.
 pub trait NodeIdentity {
     ghost use Rattle.node_gate.specs.Identities.{NodeIdentity};
 

@@ -1,4 +1,5 @@
-//! Events that wait for the thread that drives a node with a journal: it takes all of them at once, so that one sync settles them all.
+//! Events that wait for the thread that drives a node with a journal: it takes all of them at once, so that one sync
+//! settles them all.
 use crate::arrival::Arrival;
 use dir_node::{Event, NodeError, Op};
 use replica_clock::{Sign, sign_of};

@@ -20,8 +20,8 @@ impl<D: Device, J: JournalDevice> Drop for Moved<D, J> {
     }
 }
 
-/// An event that was given to a node, and what it made of the node; none where it waits for the thread that drives the node. It has no octets but
-/// whether it waits.
+/// An event that was given to a node, and what it made of the node; none where it waits for the thread that drives the
+/// node. It has no octets but whether it waits.
 pub struct Handed<D: Device, J: JournalDevice> {
     pub event: Snapshot<Event<Op>>,
     pub moved: Option<Moved<D, J>>,

@@ -1,4 +1,5 @@
-// A node that was opened, before threads share it. A start makes one; threads share what `OpenedNode::share` makes of it.
+// A node that was opened, before threads share it. A start makes one; threads share what `OpenedNode::share` makes of
+// it.
 ghost use Rattle.std.specs.Prelude.{◌≡◌};
 ghost use Rattle.node_gate.specs.Identities.{identity_of};
 

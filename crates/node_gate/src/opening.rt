@@ -1,5 +1,5 @@
-// Opens a node over its devices: starts it, makes its seats, and hands on what its start sends. Threads share it later (`opened`). Files and sockets
-// are above.
+// Opens a node over its devices: starts it, makes its seats, and hands on what its start sends. Threads share it later
+// (`opened`). Files and sockets are above.
 ghost use Rattle.std.specs.Prelude.{◌≡◌, ◌<◌, ◌≤◌, true, false, length, All, Some, None, IfOk, OnOk};
 ghost use Rattle.std.specs.Arc.{arc_value};
 ghost use Rattle.dir_node.specs.NodeState.{IsMade, given, nothing_executed};
@@ -41,7 +41,8 @@ fn start_first<D: Device + Drop, J: JournalDevice + Drop>(
 ) -> Result<(Node<D, J>, Outputs<Op>), NodeError>
     requires within { config.index < config.count }
     ensures made { let finding = found config.cluster (D.seen device) in
-        IfOk result (λ made. IsMade config (state_of_start true config.count finding) (pair_of_start true finding).restarts made.0) }
+        IfOk result (λ made. IsMade config (state_of_start true config.count finding)
+        (pair_of_start true finding).restarts made.0) }
     ensures outputs { let finding = found config.cluster (D.seen device) in
         IfOk result (λ made. given made.0.replica made.1 ≡ outcome_of_start true config.count config.index finding) }
     ensures replica { IfOk result (λ made. IsReplicaOf config made.0) }
@@ -62,10 +63,12 @@ fn start_again<D: Device + Drop, J: JournalDevice + Drop>(
     requires within { config.index < config.count }
     ensures own { journal ≡ None → OnOk result (MayStart false (found config.cluster (D.seen device))) }
     ensures made { journal ≡ None → let finding = found config.cluster (D.seen device) in
-        IfOk result (λ made. IsMade config (state_of_start false config.count finding) (pair_of_start false finding).restarts made.0) }
+        IfOk result (λ made. IsMade config (state_of_start false config.count finding)
+        (pair_of_start false finding).restarts made.0) }
     ensures outputs { journal ≡ None → let finding = found config.cluster (D.seen device) in
         IfOk result (λ made. given made.0.replica made.1 ≡ outcome_of_start false config.count config.index finding) }
-    ensures restarted { (j : J) → journal ≡ Some j → IfOk result (λ made. IsRestarted config (found config.cluster (D.seen device))
+    ensures restarted { (j : J) → journal ≡ Some j →
+        IfOk result (λ made. IsRestarted config (found config.cluster (D.seen device))
         (recorded (J.seen j)) made.0 made.1) }
     ensures replica { IfOk result (λ made. IsReplicaOf config made.0) }
     ensures nothing { IfOk result (λ made. made.0.executed ≡ nothing_executed config) }
@@ -87,11 +90,14 @@ fn start<D: Device + Drop, J: JournalDevice + Drop>(
     requires within { config.index < config.count }
     ensures own { IsPlain is_fresh journal → OnOk result (MayStart is_fresh (found config.cluster (D.seen device))) }
     ensures made { IsPlain is_fresh journal → let finding = found config.cluster (D.seen device) in
-        IfOk result (λ made. IsMade config (state_of_start is_fresh config.count finding) (pair_of_start is_fresh finding).restarts made.0) }
+        IfOk result (λ made. IsMade config (state_of_start is_fresh config.count finding)
+        (pair_of_start is_fresh finding).restarts made.0) }
     ensures outputs { IsPlain is_fresh journal → let finding = found config.cluster (D.seen device) in
-        IfOk result (λ made. given made.0.replica made.1 ≡ outcome_of_start is_fresh config.count config.index finding) }
+        IfOk result (λ made. given made.0.replica made.1 ≡ outcome_of_start is_fresh config.count config.index
+        finding) }
     ensures restarted { (j : J) → is_fresh ≡ false → journal ≡ Some j
-        → IfOk result (λ made. IsRestarted config (found config.cluster (D.seen device)) (recorded (J.seen j)) made.0 made.1) }
+        → IfOk result (λ made. IsRestarted config (found config.cluster (D.seen device)) (recorded (J.seen j)) made.0
+        made.1) }
     ensures replica { IfOk result (λ made. IsReplicaOf config made.0) }
     ensures nothing { IfOk result (λ made. made.0.executed ≡ nothing_executed config) }
 {
@@ -102,9 +108,9 @@ fn start<D: Device + Drop, J: JournalDevice + Drop>(
     }
 }
 
-/// The node of a first or a later start over a device, and its seats, which see what it has executed. What a seat takes in memory is made first; the
-/// errors are those of the start. Where it goes on from a journal, it has executed what that says is committed when it comes back, so that its clock and
-/// its threads begin after that.
+/// The node of a first or a later start over a device, and its seats, which see what it has executed. What a seat takes
+/// in memory is made first; the errors are those of the start. Where it goes on from a journal, it has executed what
+/// that says is committed when it comes back, so that its clock and its threads begin after that.
 pub fn open<'a, R: Wait, D: Device + Drop, J: JournalDevice + Drop>(
     rt: &'a R,
     alloc: Global,
@@ -116,27 +122,35 @@ pub fn open<'a, R: Wait, D: Device + Drop, J: JournalDevice + Drop>(
     requires within { config.index < config.count }
     requires seats { (0 < options.seats) × (options.seats ≤ 32) }
 
-    // The replica starts for the first time, or from the pair that was found: what it sends is what such a start sends, and its restarts are the pair's.
-    ensures own { IsPlain options.is_fresh journal → OnOk result (MayStart options.is_fresh (found config.cluster (D.seen device))) }
+    // The replica starts for the first time, or from the pair that was found: what it sends is what such a start sends,
+    // and its restarts are the pair's.
+    ensures own { IsPlain options.is_fresh journal →
+        OnOk result (MayStart options.is_fresh (found config.cluster (D.seen device))) }
     ensures outputs { IsPlain options.is_fresh journal → let finding = found config.cluster (D.seen device) in
-        IfOk result (λ opened. given (state_of_start options.is_fresh config.count finding) opened.outputs ≡ outcome_of_start options.is_fresh config.count config.index finding) }
-    ensures restarts { IsPlain options.is_fresh journal → IfOk result (λ opened. opened.restarts ≡ (pair_of_start options.is_fresh (found config.cluster (D.seen device))).restarts) }
+        IfOk result (λ opened. given (state_of_start options.is_fresh config.count finding) opened.outputs ≡
+        outcome_of_start options.is_fresh config.count config.index finding) }
+    ensures restarts { IsPlain options.is_fresh journal →
+        IfOk result (λ opened. opened.restarts ≡
+        (pair_of_start options.is_fresh (found config.cluster (D.seen device))).restarts) }
     ensures made { IsPlain options.is_fresh journal → let finding = found config.cluster (D.seen device) in
-        IfOk result (λ opened. IsMade config (state_of_start options.is_fresh config.count finding) (pair_of_start options.is_fresh finding).restarts (as_made config opened.node)) }
+        IfOk result (λ opened. IsMade config (state_of_start options.is_fresh config.count finding)
+        (pair_of_start options.is_fresh finding).restarts (as_made config opened.node)) }
 
     // It is the configuration's replica, at that start, over the configuration's schema, root and index choice.
     ensures own_start { IfOk result (λ opened. identity_of opened.node ≡ identity_by config opened.restarts) }
 
     // A later start that keeps a journal goes on from it, or recovers and begins it, as its strings say.
     ensures restarted { (j : J) → options.is_fresh ≡ false → journal ≡ Some j
-        → IfOk result (λ opened. IsRestarted config (found config.cluster (D.seen device)) (recorded (J.seen j)) (as_made config opened.node) opened.outputs) }
+        → IfOk result (λ opened. IsRestarted config (found config.cluster (D.seen device)) (recorded (J.seen j))
+        (as_made config opened.node) opened.outputs) }
 
     // It has executed what the start says is committed, or, for want of memory, a front of it.
     ensures executed { IfOk result (λ opened. ExecutesDue (as_made config opened.node) opened.node) }
 
     // There are as many seats as were asked for, and they have seen nothing.
     ensures count { IfOk result (λ opened. length opened.seats.items ≡ options.seats) }
-    ensures seats { IfOk result (λ opened. All (λ seat. seat ≡ nothing_over (arc_value config.schema) config.indexes config.suffix) opened.seats.items) }
+    ensures seats { IfOk result (λ opened. All (λ seat. seat ≡ nothing_over (arc_value config.schema) config.indexes
+        config.suffix) opened.seats.items) }
 {
     let (publisher, seats) = seats(
         rt,

@@ -6,8 +6,8 @@ ghost use Rattle.node_gate.specs.Sent.{TakesAll};
 
 use dir_node::{Op, PeerMessage, Send};
 
-/// What takes messages to other replicas. It is called inside the node's lock, in the order of the steps: so it never waits for a replica, and makes
-/// no frame. A message may be lost on its way.
+/// What takes messages to other replicas. It is called inside the node's lock, in the order of the steps: so it never
+/// waits for a replica, and makes no frame. A message may be lost on its way.
 pub trait Peers {
     // What is taken, for whom, and what the way is after it.
     ghost takes: { Self → ℕ → PeerMessage OpValue → Self → Type 0 };

@@ -1,4 +1,5 @@
-// A node and what its seats see of it. Takes events to the node, and shows the seats what it then has executed. Locks and clocks are above.
+// A node and what its seats see of it. Takes events to the node, and shows the seats what it then has executed. Locks
+// and clocks are above.
 ghost use Rattle.std.specs.Prelude.{◌≡◌, ◌∷◌, [], IsTrue, IfOk, IfErr};
 ghost use Rattle.dir_node.specs.NodeState.{IsSameNode};
 ghost use Rattle.node_gate.specs.Moved.{IsLeftBy};
@@ -15,7 +16,8 @@ use std::sync::Wait;
 /// Which node a seat is of: there is one in a process.
 pub struct Here;
 
-/// A node and the publisher to its seats. What its seats see, and what they are to see next, is a beginning of what it has executed.
+/// A node and the publisher to its seats. What its seats see, and what they are to see next, is a beginning of what it
+/// has executed.
 pub struct PublishedNode<'a, R: Wait, D: Device, J: JournalDevice> {
     node: Node<D, J>,
     publisher: Publisher<Here, &'a R>,
@@ -47,7 +49,8 @@ impl<'a, R: Wait, D: Device, J: JournalDevice> PublishedNode<'a, R, D, J> {
         &self.node
     }
 
-    /// Hands an event to the node, and shows its seats what it then has executed. It is behind too where there was no memory to show all.
+    /// Hands an event to the node, and shows its seats what it then has executed. It is behind too where there was no
+    /// memory to show all.
     pub fn handle(&mut self, alloc: Global, event: Event<Op>) -> Result<Handled, NodeError>
         ensures handled { IfOk result (λ h. HasHandled self.old.node event h self.new.node self.new.publisher) }
         ensures same { IsSameNode self.old.node self.new.node }
@@ -61,14 +64,15 @@ impl<'a, R: Wait, D: Device, J: JournalDevice> PublishedNode<'a, R, D, J> {
         })
     }
 
-    /// Hands a batch of events to the node, and shows its seats what it then has executed. It is behind too where there was no
-    /// memory to show all.
+    /// Hands a batch of events to the node, and shows its seats what it then has executed. It is behind too where there
+    /// was no memory to show all.
     pub fn handle_all(
         &mut self,
         alloc: Global,
         events: Vec<Event<Op>>,
     ) -> Result<AllHandled, NodeError>
-        ensures handled { IfOk result (λ h. HasHandledAll self.old.node events.items h self.new.node self.new.publisher) }
+        ensures handled { IfOk result (λ h. HasHandledAll self.old.node events.items h self.new.node
+            self.new.publisher) }
         ensures same { IsSameNode self.old.node self.new.node }
         ensures refused { IfErr result (λ e. IsLeftBy events.items e self.old.node self.new.node) }
     {
@@ -80,8 +84,8 @@ impl<'a, R: Wait, D: Device, J: JournalDevice> PublishedNode<'a, R, D, J> {
         })
     }
 
-    /// Has the node execute what is committed, before any event, and shows its seats what it then has executed. Whether some of that is left for want of
-    /// memory.
+    /// Has the node execute what is committed, before any event, and shows its seats what it then has executed. Whether
+    /// some of that is left for want of memory.
     pub fn execute_due(&mut self, alloc: Global) -> bool
         ensures executed { HasExecuted self.old.node result self.new.node self.new.publisher }
         ensures same { IsSameNode self.old.node self.new.node }
@@ -91,8 +95,8 @@ impl<'a, R: Wait, D: Device, J: JournalDevice> PublishedNode<'a, R, D, J> {
         behind || !sees_all
     }
 
-    /// Shows the seats what the node has executed and they don't see yet; whether they see all of it. What finds no memory is shown after the
-    /// next event.
+    /// Shows the seats what the node has executed and they don't see yet; whether they see all of it. What finds no
+    /// memory is shown after the next event.
     fn show(&mut self) -> bool
         ensures node { self.new.node ≡ self.old.node }
         ensures all { IsTrue result → HasAll self.new.node.executed self.new.publisher }

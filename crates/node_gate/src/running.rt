@@ -37,7 +37,8 @@ struct Call {
     is_stopping: bool,
 }
 
-/// The node with this identity under its lock, with a condition that is told of each change, and one for the thread that asks its clock.
+/// The node with this identity under its lock, with a condition that is told of each change, and one for the thread
+/// that asks its clock.
 pub struct SharedNode<'a, R: Wait, D: Device, J: JournalDevice, I: NodeIdentity> {
     pub(crate) held: Mutex<LockedNode<'a, R, D, J, I>>,
     /// The standing to sessions after the last event, for who doesn't wait for the lock.
@@ -117,8 +118,10 @@ fn take<R: Wait, D: Device, J: JournalDevice, I: NodeIdentity, P: Peers>(
     peers: &mut P,
     event: Event<Op>,
 ) -> Result<(), NodeError>
-    ensures stepped { OnOk result (HasStepped P.takes event held.old.published.node held.new.published.node peers.old peers.new) }
-    ensures refused { IfErr result (λ e. HasRefused (event ∷ []) e held.old.published.node held.new.published.node peers.old peers.new) }
+    ensures stepped { OnOk result (HasStepped P.takes event held.old.published.node held.new.published.node peers.old
+        peers.new) }
+    ensures refused { IfErr result (λ e. HasRefused (event ∷ []) e held.old.published.node held.new.published.node
+        peers.old peers.new) }
 {
     let handled = held.handle(alloc, event)?;
     send_outputs(peers, handled.outputs);
@@ -132,8 +135,10 @@ fn take_message<R: Wait, D: Device, J: JournalDevice, I: NodeIdentity, P: Peers>
     peers: &mut P,
     arrival: Arrival,
 ) -> Result<(), NodeError>
-    ensures stepped { OnOk result (HasStepped P.takes (event.Message arrival.from arrival.message) held.old.published.node held.new.published.node peers.old peers.new) }
-    ensures refused { IfErr result (λ e. HasRefused (event.Message arrival.from arrival.message ∷ []) e held.old.published.node held.new.published.node peers.old peers.new) }
+    ensures stepped { OnOk result (HasStepped P.takes (event.Message arrival.from arrival.message)
+        held.old.published.node held.new.published.node peers.old peers.new) }
+    ensures refused { IfErr result (λ e. HasRefused (event.Message arrival.from arrival.message ∷ []) e
+        held.old.published.node held.new.published.node peers.old peers.new) }
 {
     let handled = held.hear(alloc, arrival)?;
     send_outputs(peers, handled.outputs);
@@ -146,8 +151,10 @@ fn beat<R: Wait, D: Device, J: JournalDevice, I: NodeIdentity, P: Peers>(
     held: &mut LockedNode<'_, R, D, J, I>,
     peers: &mut P,
 ) -> (Result<(), NodeError>, Option<Vec<Send<Op>>>)
-    ensures stepped { OnOk result.0 (HasStepped P.takes event.Beat held.old.published.node held.new.published.node peers.old peers.new) }
-    ensures refused { IfErr result.0 (λ e. HasRefused (event.Beat ∷ []) e held.old.published.node held.new.published.node peers.old peers.new) }
+    ensures stepped { OnOk result.0 (HasStepped P.takes event.Beat held.old.published.node held.new.published.node
+        peers.old peers.new) }
+    ensures refused { IfErr result.0 (λ e. HasRefused (event.Beat ∷ []) e held.old.published.node
+        held.new.published.node peers.old peers.new) }
     ensures copied { IfSome result.1 (λ c. c.items ≡ (step_at held.old.published.node event.Beat).sends) }
 {
     match held.handle(alloc, Event::Beat) {
@@ -163,15 +170,18 @@ fn beat<R: Wait, D: Device, J: JournalDevice, I: NodeIdentity, P: Peers>(
     }
 }
 
-/// Does what is due, or nothing where nothing is; copies of what a beat has sent. A node that stopped at it shows that in its pulse.
+/// Does what is due, or nothing where nothing is; copies of what a beat has sent. A node that stopped at it shows that
+/// in its pulse.
 fn act<R: Wait, D: Device, J: JournalDevice, I: NodeIdentity, P: Peers>(
     alloc: Global,
     held: &mut LockedNode<'_, R, D, J, I>,
     peers: &mut P,
     due: Due,
 ) -> (Result<(), NodeError>, Option<Vec<Send<Op>>>)
-    ensures acted { HasActed P.takes (event_of due) result.0 held.old.published.node held.new.published.node peers.old peers.new }
-    ensures copied { IfSome result.1 (λ c. (due ≡ kind.Beat) × (c.items ≡ (step_at held.old.published.node event.Beat).sends)) }
+    ensures acted { HasActed P.takes (event_of due) result.0 held.old.published.node held.new.published.node peers.old
+        peers.new }
+    ensures copied { IfSome result.1 (λ c. (due ≡ kind.Beat)
+        × (c.items ≡ (step_at held.old.published.node event.Beat).sends)) }
 {
     match due {
         Due::Nothing => (Ok(()), None),
@@ -181,7 +191,8 @@ fn act<R: Wait, D: Device, J: JournalDevice, I: NodeIdentity, P: Peers>(
 }
 
 impl<'a, R: Wait, D: Device, J: JournalDevice, I: NodeIdentity> SharedNode<'a, R, D, J, I> {
-    /// The node with this identity for threads to share, and what tells what its publisher shows. Its clock begins at the moment 0.
+    /// The node with this identity for threads to share, and what tells what its publisher shows. Its clock begins at
+    /// the moment 0.
     pub(crate) fn new(
         published: PublishedNode<'a, R, D, J>,
         teller: Teller<Here>,
@@ -216,8 +227,9 @@ impl<'a, R: Wait, D: Device, J: JournalDevice, I: NodeIdentity> SharedNode<'a, R
         }
     }
 
-    /// Hands an event to the node, which shows the seats what it then has executed; hands over what the step sends, in the order of the steps; and tells
-    /// those who wait. Its errors are the node's. It gives the node as the lock held it before the event and after it, for clauses alone.
+    /// Hands an event to the node, which shows the seats what it then has executed; hands over what the step sends, in
+    /// the order of the steps; and tells those who wait. Its errors are the node's. It gives the node as the lock held
+    /// it before the event and after it, for clauses alone.
     pub fn handle<P: Peers>(
         &self,
         rt: &R,
@@ -226,8 +238,10 @@ impl<'a, R: Wait, D: Device, J: JournalDevice, I: NodeIdentity> SharedNode<'a, R
         event: Event<Op>,
     ) -> (Result<(), NodeError>, Moved<D, J>)
         ensures own { AreOf I.own result.1.before.value result.1.after.value }
-        ensures stepped { OnOk result.0 (HasStepped P.takes event result.1.before.value result.1.after.value peers.old peers.new) }
-        ensures refused { IfErr result.0 (λ e. HasRefused (event ∷ []) e result.1.before.value result.1.after.value peers.old peers.new) }
+        ensures stepped { OnOk result.0 (HasStepped P.takes event result.1.before.value result.1.after.value peers.old
+            peers.new) }
+        ensures refused { IfErr result.0 (λ e. HasRefused (event ∷ []) e result.1.before.value result.1.after.value
+            peers.old peers.new) }
     {
         let mut held = self.held.lock(rt);
         let before = Snapshot::of(held.node());
@@ -248,8 +262,10 @@ impl<'a, R: Wait, D: Device, J: JournalDevice, I: NodeIdentity> SharedNode<'a, R
         arrival: Arrival,
     ) -> (Result<(), NodeError>, Moved<D, J>)
         ensures own { AreOf I.own result.1.before.value result.1.after.value }
-        ensures stepped { OnOk result.0 (HasStepped P.takes (event.Message arrival.from arrival.message) result.1.before.value result.1.after.value peers.old peers.new) }
-        ensures refused { IfErr result.0 (λ e. HasRefused (event.Message arrival.from arrival.message ∷ []) e result.1.before.value result.1.after.value peers.old peers.new) }
+        ensures stepped { OnOk result.0 (HasStepped P.takes (event.Message arrival.from arrival.message)
+            result.1.before.value result.1.after.value peers.old peers.new) }
+        ensures refused { IfErr result.0 (λ e. HasRefused (event.Message arrival.from arrival.message ∷ []) e
+            result.1.before.value result.1.after.value peers.old peers.new) }
     {
         let mut held = self.held.lock(rt);
         let ask_at = held.ask_at();
@@ -277,8 +293,8 @@ impl<'a, R: Wait, D: Device, J: JournalDevice, I: NodeIdentity> SharedNode<'a, R
         self.called.notify_all();
     }
 
-    /// Asks the node's clock, at this moment, and does what is due, as `handle` does, or posts it where events wait for the thread
-    /// that drives the node; none, where another thread has the node just then.
+    /// Asks the node's clock, at this moment, and does what is due, as `handle` does, or posts it where events wait for
+    /// the thread that drives the node; none, where another thread has the node just then.
     pub fn tick<P: Peers>(
         &self,
         rt: &R,
@@ -288,7 +304,8 @@ impl<'a, R: Wait, D: Device, J: JournalDevice, I: NodeIdentity> SharedNode<'a, R
     ) -> Option<Ticked<D, J>>
         ensures own { IfSome result (λ t. IfSome t.acted (λ d. AreOf I.own d.moved.before.value d.moved.after.value)) }
         ensures acted { IfSome result (λ t. MatchOption t.acted (peers.new ≡ peers.old)
-            (λ d. HasActed P.takes (event_of t.due) d.done d.moved.before.value d.moved.after.value peers.old peers.new)) }
+            (λ d. HasActed P.takes (event_of t.due) d.done d.moved.before.value d.moved.after.value peers.old
+            peers.new)) }
         ensures copied { IfSome result (λ t. IfSome t.acted (λ d. IfSome t.beat
             (λ c. (t.due ≡ kind.Beat) × (c.items ≡ (step_at d.moved.before.value event.Beat).sends)))) }
         ensures repeated { IfSome result (λ t. IfSome t.beat (λ c. IsBeatOf I.own c.items)) }
@@ -319,7 +336,8 @@ impl<'a, R: Wait, D: Device, J: JournalDevice, I: NodeIdentity> SharedNode<'a, R
     ) -> Option<Ticked<D, J>>
         ensures own { IfSome result (λ t. IfSome t.acted (λ d. AreOf I.own d.moved.before.value d.moved.after.value)) }
         ensures acted { IfSome result (λ t. MatchOption t.acted (peers.new ≡ peers.old)
-            (λ d. HasActed P.takes (event_of t.due) d.done d.moved.before.value d.moved.after.value peers.old peers.new)) }
+            (λ d. HasActed P.takes (event_of t.due) d.done d.moved.before.value d.moved.after.value peers.old
+            peers.new)) }
         ensures copied { IfSome result (λ t. IfSome t.acted (λ d. IfSome t.beat
             (λ c. (t.due ≡ kind.Beat) × (c.items ≡ (step_at d.moved.before.value event.Beat).sends)))) }
         ensures repeated { IfSome result (λ t. IfSome t.beat (λ c. IsBeatOf I.own c.items)) }
@@ -345,9 +363,9 @@ impl<'a, R: Wait, D: Device, J: JournalDevice, I: NodeIdentity> SharedNode<'a, R
         })
     }
 
-    /// Waits until the node has had the event of a client's request, where it was posted, and while what becomes of that is still to
-    /// come, but only as long as nobody says that the client has left; gives how it ended, and the node as the lock then held it, for
-    /// clauses alone.
+    /// Waits until the node has had the event of a client's request, where it was posted, and while what becomes of
+    /// that is still to come, but only as long as nobody says that the client has left; gives how it ended, and the
+    /// node as the lock then held it, for clauses alone.
     pub fn settled(
         &self,
         rt: &R,
@@ -367,8 +385,8 @@ impl<'a, R: Wait, D: Device, J: JournalDevice, I: NodeIdentity> SharedNode<'a, R
         (ended, Snapshot::of(node))
     }
 
-    /// Has those who wait for an outcome look again whether their clients have left. It takes no lock: who begins to wait meanwhile looks after
-    /// the next event, or when the clock is asked next.
+    /// Has those who wait for an outcome look again whether their clients have left. It takes no lock: who begins to
+    /// wait meanwhile looks after the next event, or when the clock is asked next.
     pub fn look_again(&self) {
         self.changed.notify_all();
     }
@@ -383,7 +401,8 @@ impl<'a, R: Wait, D: Device, J: JournalDevice, I: NodeIdentity> SharedNode<'a, R
         self.standing.to_sessions()
     }
 
-    /// The node hears from a majority, or from none: then those who wait for an update's outcome go on without it. It waits for nobody.
+    /// The node hears from a majority, or from none: then those who wait for an update's outcome go on without it. It
+    /// waits for nobody.
     pub fn set_majority(&self, has_majority: bool) {
         self.standing.set_majority(has_majority);
         self.changed.notify_all();
@@ -394,8 +413,8 @@ impl<'a, R: Wait, D: Device, J: JournalDevice, I: NodeIdentity> SharedNode<'a, R
         self.standing.steps()
     }
 
-    /// The whole of what the seats see at some moment of the call; none, where there is no place to tell it by. It takes no lock, and waits for
-    /// nobody.
+    /// The whole of what the seats see at some moment of the call; none, where there is no place to tell it by. It
+    /// takes no lock, and waits for nobody.
     pub fn told(&self) -> Option<Told<Here>> {
         self.teller.tell()
     }

@@ -1,5 +1,5 @@
-//! Makes frames of messages, in the thread that sends them and outside every lock. A message to a replica that reads notes leaves out what that
-//! replica has said that it has committed.
+//! Makes frames of messages, in the thread that sends them and outside every lock. A message to a replica that reads
+//! notes leaves out what that replica has said that it has committed.
 use crate::parts::PeerParts;
 use crate::telling::{tell_lost, tell_refused_by, tell_silent};
 use peer_link::{Bytes, Framing, REFUSAL};
@@ -13,14 +13,16 @@ use std::sync::atomic::Ordering;
 use vr_short::{note, noted};
 use vr_state::words::LogEntry;
 
-/// How many octets of a long message a part has: few enough that each part is a sign of life in time, also where a stream takes no more than a
-/// mebibyte within the shortest time after which a replica is suspected.
+/// How many octets of a long message a part has: few enough that each part is a sign of life in time, also where a
+/// stream takes no more than a mebibyte within the shortest time after which a replica is suspected.
 const PART: usize = 1_048_576;
 
-/// So many parts of a message may wait in the systems of both ends, for a replica that reads nothing: that they were written is no sign of its life.
+/// So many parts of a message may wait in the systems of both ends, for a replica that reads nothing: that they were
+/// written is no sign of its life.
 const UNREAD: u64 = 16;
 
-/// An answer of so many octets is sent to one replica at a time, so that no more than one copy of the log is made, however many replicas ask for it.
+/// An answer of so many octets is sent to one replica at a time, so that no more than one copy of the log is made,
+/// however many replicas ask for it.
 const LONG: usize = 16_777_216;
 
 /// The records that an answer tells: one that a replica has asked for, and asks for again where it doesn't come.
@@ -49,7 +51,8 @@ fn are_long(records: &[LogEntry<Op>], octets: usize) -> bool {
     count >= octets
 }
 
-/// Makes the frames of messages to one replica: one of each message that fits in one, else its parts. A message that can't be made frames of is told of.
+/// Makes the frames of messages to one replica: one of each message that fits in one, else its parts. A message that
+/// can't be made frames of is told of.
 pub struct MessageFrames<'a, R> {
     rt: &'a R,
     alloc: Global,
@@ -85,7 +88,8 @@ impl<'a, R> Drop for MessageFrames<'a, R> {
 }
 
 impl<'a, R> MessageFrames<'a, R> {
-    /// Frames of the server that has these parts, in this cluster, to the replica of this index; its start says this of itself.
+    /// Frames of the server that has these parts, in this cluster, to the replica of this index; its start says this of
+    /// itself.
     pub fn new(
         rt: &'a R,
         alloc: Global,
@@ -144,7 +148,8 @@ impl<'a, R: Wait> MessageFrames<'a, R> {
         Frames::of(alloc, cluster, sender, self.number, sizes, message)
     }
 
-    /// Whether a message is to wait for another: it is a long answer, and one is being sent to another replica. Who asked asks again.
+    /// Whether a message is to wait for another: it is a long answer, and one is being sent to another replica. Who
+    /// asked asks again.
     fn waits(&self, message: &PeerMessage<Op>) -> bool {
         match answer_in(message) {
             Some(records) => {

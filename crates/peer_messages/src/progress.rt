@@ -41,7 +41,8 @@ fn errand_of<P>(message: &PeerMessage<P>) -> Option<Errand> {
 /// What is known of one replica.
 #[derive(Drop)]
 struct Progress {
-    /// 0 as long as it isn't known to read notes, as one of an earlier version doesn't; else one more than it has said that it has committed.
+    /// 0 as long as it isn't known to read notes, as one of an earlier version doesn't; else one more than it has said
+    /// that it has committed.
     said: AtomicU64,
     /// How many parts of long messages it has taken.
     taken: AtomicU64,
@@ -101,8 +102,8 @@ impl PeerProgress {
         })
     }
 
-    /// The replica asks whether it is heard: so it reads notes. It never counts again as one that doesn't, so that each of its messages that may have a
-    /// note has one.
+    /// The replica asks whether it is heard: so it reads notes. It never counts again as one that doesn't, so that each
+    /// of its messages that may have a note has one.
     pub fn read_notes(&self, from: u64) {
         if let Some(progress) = self.replicas.get(from as usize) {
             if progress.said.load(Ordering::SeqCst) == 0 {

@@ -4,7 +4,8 @@ use peer_messages::{
     heading as kind_and_sender, note_sender, rest,
 };
 
-/// How many octets of a frame are looked at before more of it is read: its length, and what tells its version, cluster, kind and sender.
+/// How many octets of a frame are looked at before more of it is read: its length, and what tells its version, cluster,
+/// kind and sender.
 pub const HEADING: usize = 13;
 
 /// How many of them stand behind the length.
@@ -34,8 +35,8 @@ impl Senders {
         sender != self.own && u64::from(sender) < self.count
     }
 
-    /// How many octets of a frame are to come behind these first ones; or why it can't be one of another replica of this cluster: E24 where it
-    /// is another cluster's, else E20.
+    /// How many octets of a frame are to come behind these first ones; or why it can't be one of another replica of
+    /// this cluster: E24 where it is another cluster's, else E20.
     pub fn rest_of(&self, heading: [u8; HEADING]) -> Result<u32, WireError> {
         let [l1, l2, l3, l4, version, a, b, c, d, e, f, kind, sender] = heading;
         let left = rest_behind([l1, l2, l3, l4])?;
@@ -59,8 +60,8 @@ impl Senders {
         }
     }
 
-    /// Whose greeting begins so, which is the first frame on each connection, and how many of its octets are to come; or why it is none of another replica
-    /// of this cluster, as it is told.
+    /// Whose greeting begins so, which is the first frame on each connection, and how many of its octets are to come;
+    /// or why it is none of another replica of this cluster, as it is told.
     pub fn greeting_of(&self, first: [u8; GREETING_HEADING]) -> Result<Heading, &'static str> {
         let heading = greeting_heading(first, self.cluster).map_err(refusal_of)?;
         if heading.sender == self.own {

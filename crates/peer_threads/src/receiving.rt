@@ -109,7 +109,8 @@ impl<'a, R: Wait + Clock, H: MessageHandler> PeerReaders<'a, R, H> {
         }
     }
 
-    /// Reads one frame of this replica whole, and the number of the last note before it, if there is one; or why there is no frame.
+    /// Reads one frame of this replica whole, and the number of the last note before it, if there is one; or why there
+    /// is no frame.
     fn next_frame<S: Read + PeerStream>(
         &self,
         reader: &mut S,
@@ -257,8 +258,8 @@ impl<'a, R: Wait + Clock, H: MessageHandler> PeerReaders<'a, R, H> {
         }
     }
 
-    /// Hears a start of a replica that greeted with the same terms from this address, to the end of the connection, unless it remembers less than its replica said. A replica of
-    /// version 0.2.0 says nothing of its start.
+    /// Hears a start of a replica that greeted with the same terms from this address, to the end of the connection,
+    /// unless it remembers less than its replica said. A replica of version 0.2.0 says nothing of its start.
     fn hear_start<S: Read + PeerStream>(
         &self,
         reader: &mut S,

@@ -138,8 +138,8 @@ impl<'a, R: Wait + Clock> PeerVerifier<'a, R> {
         );
     }
 
-    /// Hands an unverified peer to a thread that reads, where one is free. Else it comes back, and is counted with those who wait for one, so that only where all
-    /// are busy a place is given up.
+    /// Hands an unverified peer to a thread that reads, where one is free. Else it comes back, and is counted with
+    /// those who wait for one, so that only where all are busy a place is given up.
     fn hand_over(
         &self,
         to: &Sender<PeerConnection<'a, R>>,
@@ -219,8 +219,9 @@ impl<'a, R: Wait + Clock> PeerVerifier<'a, R> {
         }
     }
 
-    /// Takes connections from one channel, and hands those that may be other replicas' to the other, until nobody comes any more. A connection
-    /// that shows no beginning of a greeting within 2 seconds is closed, and so is one that shows a wrong one.
+    /// Takes connections from one channel, and hands those that may be other replicas' to the other, until nobody comes
+    /// any more. A connection that shows no beginning of a greeting within 2 seconds is closed, and so is one that
+    /// shows a wrong one.
     pub fn greet(
         &self,
         from: Receiver<(u64, PeerConnection<'a, R>)>,

@@ -58,7 +58,8 @@ fn bind_with_password(
     name: &str,
     password: &[u8],
 ) -> Result<Bound, AllocError>
-    ensures { IfOk result (λ b. b ≡ bound_with_password schema.now manager.now manager_password.now name.now password.now) }
+    ensures { IfOk result (λ b. b ≡ bound_with_password schema.now manager.now manager_password.now name.now
+        password.now) }
 {
     // Both are asked, so that the time doesn't tell which of them is wrong.
     let is_password = is_same(password, manager_password);
@@ -82,7 +83,8 @@ fn bind_by(
     name: &str,
     authentication: &AuthenticationChoice,
 ) -> Result<Bound, AllocError>
-    ensures { IfOk result (λ b. b ≡ bound_by schema.now manager.now manager_password.now name.now (authentication_view authentication.now)) }
+    ensures { IfOk result (λ b. b ≡ bound_by schema.now manager.now manager_password.now name.now
+        (authentication_view authentication.now)) }
 {
     match authentication {
         AuthenticationChoice::Simple(password) => {

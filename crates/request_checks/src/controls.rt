@@ -76,7 +76,8 @@ fn is_unavailable(kind: Kind, controls: &[Control]) -> bool
 /// The one control of a type, if there is one; protocolError for two.
 fn given<'a>(oid: &str, controls: &'a [Control]) -> Result<Option<&'a Control>, ResultCode>
     ensures { MatchResult result
-        (λ found. filter (is_of oid.now) (map control_view controls.now) ≡ option_to_list (option_map control_view (option_copied found)))
+        (λ found. filter (is_of oid.now) (map control_view controls.now) ≡ option_to_list
+        (option_map control_view (option_copied found)))
         (λ e. (e ≡ 2) × AreRepeated (filter (is_of oid.now) (map control_view controls.now))) }
 {
     let mut found: Option<&Control> = None;
@@ -165,8 +166,9 @@ fn named_in(kind: Kind, controls: &[Control]) -> Result<Named, ResultCode>
     }
 }
 
-/// What the controls of a request come to: what they name; or the code that refuses it, unavailableCriticalExtension for a critical one
-/// without a meaning there, else protocolError for one with a meaning that is repeated or can't be read. It takes no memory.
+/// What the controls of a request come to: what they name; or the code that refuses it, unavailableCriticalExtension
+/// for a critical one without a meaning there, else protocolError for one with a meaning that is repeated or can't be
+/// read. It takes no memory.
 pub fn judge(kind: Kind, controls: &[Control]) -> Result<Named, ResultCode>
     ensures { result ≡ judged kind (map control_view controls.now) }
 {

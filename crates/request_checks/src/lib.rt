@@ -1,8 +1,8 @@
 //! Judges a request by itself: its kind, its controls, a bind's name and password. It also writes
 //! responses as octets.
 //!
-//! What needs no session: `requests` knows a request's kind, `controls` and `numbers` read its controls, `binding` judges binds by a
-//! password that it compares with `sameness`, `writing` writes responses.
+//! What needs no session: `requests` knows a request's kind, `controls` and `numbers` read its controls, `binding`
+//! judges binds by a password that it compares with `sameness`, `writing` writes responses.
 #![tactic(auto)]
 
 mod binding;

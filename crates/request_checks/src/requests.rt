@@ -86,7 +86,8 @@ pub fn answering_of(request: &Request) -> Answering
 
 /// The update that an extended request is, or the request as it was.
 fn noop_in(request: ExtendedRequest) -> Result<Update, Request>
-    ensures update { IfOk result (λ u. update_of (extended_request (extended_request_view request)) ≡ Some (update_view u)) }
+    ensures update { IfOk result (λ u. update_of (extended_request (extended_request_view request)) ≡
+        Some (update_view u)) }
     ensures same { IfErr result (λ r. request_view r ≡ extended_request (extended_request_view request)) }
     ensures other { IfErr result (λ r. update_of (request_view r) ≡ None) }
 {

@@ -2,7 +2,8 @@
 ghost use Rattle.std.specs.Prelude.{◌≡◌};
 ghost use Rattle.std.specs.Str.{bytes_eq};
 
-/// Whether octets are the same. All of them are compared: the time tells how many there are, and not where the first differ.
+/// Whether octets are the same. All of them are compared: the time tells how many there are, and not where the first
+/// differ.
 pub fn is_same(one: &[u8], other: &[u8]) -> bool
     ensures { result ≡ bytes_eq one.now other.now }
 {

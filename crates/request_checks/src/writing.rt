@@ -108,7 +108,8 @@ fn write_message(
     response: Response,
     controls: Vec<Control>,
 ) -> Result<Vec<u8>, AnswerError>
-    ensures ok { IfOk result (λ octets. octets.items ≡ message_bytes (message id (response_view response) (map control_view controls.items))) }
+    ensures ok { IfOk result (λ octets. octets.items ≡ message_bytes (message id (response_view response)
+        (map control_view controls.items))) }
     ensures too_long { IsErrOf result AnswerError.TooLong
         → 2 ^ 32 ≤ length (message_content (message id (response_view response) (map control_view controls.items))) }
 {
@@ -126,7 +127,8 @@ fn write_message(
 /// A response without controls, written.
 pub fn write_plain(alloc: Global, id: u32, response: Response) -> Result<Vec<u8>, AnswerError>
     ensures ok { IfOk result (λ octets. octets.items ≡ message_bytes (message id (response_view response) [])) }
-    ensures too_long { IsErrOf result AnswerError.TooLong → 2 ^ 32 ≤ length (message_content (message id (response_view response) [])) }
+    ensures too_long { IsErrOf result AnswerError.TooLong →
+        2 ^ 32 ≤ length (message_content (message id (response_view response) [])) }
 {
     write_message(alloc, id, response, Vec::new(alloc))
 }
@@ -139,7 +141,8 @@ pub fn write_numbered(
     asked: Option<u64>,
     number: u64,
 ) -> Result<Vec<u8>, AnswerError>
-    ensures ok { IfOk result (λ octets. octets.items ≡ message_bytes (message id (response_view response) (number_told asked number))) }
+    ensures ok { IfOk result (λ octets. octets.items ≡ message_bytes (message id (response_view response)
+        (number_told asked number))) }
     ensures too_long { IsErrOf result AnswerError.TooLong
         → 2 ^ 32 ≤ length (message_content (message id (response_view response) (number_told asked number))) }
 {

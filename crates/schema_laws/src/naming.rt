@@ -17,8 +17,8 @@ pub fn read_names_are_read_again()
     ensures { ReadNamesAreReadAgain }
 {}
 
-/// Two names that were read under one schema are one name exactly where they have as many relative names and those at one place are
-/// equal as sets of types with what their values mean.
+/// Two names that were read under one schema are one name exactly where they have as many relative names and those at
+/// one place are equal as sets of types with what their values mean.
 pub fn names_are_one_by_meaning()
     ensures { NamesAreOneByMeaning }
 {
@@ -32,8 +32,8 @@ pub fn entries_have_read_names()
     ensures { EntriesHaveReadNames }
 {}
 
-/// The item on a pair of a name whose relative names were read is the item on an attribute of the pair's type with its value alone, and
-/// on such a name it is the `or` of these: what is told by keys is told by what values mean.
+/// The item on a pair of a name whose relative names were read is the item on an attribute of the pair's type with its
+/// value alone, and on such a name it is the `or` of these: what is told by keys is told by what values mean.
 pub fn pairs_are_attributes()
     ensures pairs { PairsAreAttributes }
     ensures names { NamesAreAttributes }

@@ -127,13 +127,15 @@ pub fn compile(alloc: Global, filter: &BoundFilter, indexes: &Indexes) -> Result
     ensures sets { IfOk result (λ s. (n : List RdnModel) → BoundsSets indexes.now (λ e. bound_value n e filter.now) True
         (is_decided indexes.now filter.now) s.must s.may) }
     // So the plans guide a run for the filter's value.
-    ensures guides { IfOk result (λ s. (n : List RdnModel) → GuidesRuns indexes.now (λ e. bound_value n e filter.now) s.must s.may) }
+    ensures guides { IfOk result (λ s. (n : List RdnModel) → GuidesRuns indexes.now (λ e. bound_value n e filter.now)
+        s.must s.may) }
     // The same of each entry by itself, whatever its name.
     ensures entries { IfOk result (λ s. (n : List RdnModel) → Bounds indexes.now (λ e. bound_value n e filter.now) True
         (is_decided indexes.now filter.now) s.must s.may) }
     // What may be true of an `and` is true of each part that the indexes decide.
     ensures parts { IfOk result (λ s. (v : Vec BoundFilter Global) → filter.now ≡ BoundFilter.And v
-        → (n : List RdnModel) (e : List KeyedAttribute) → holds indexes.now e s.may ≡ true → DecidedAreTrue indexes.now n e v.items) }
+        → (n : List RdnModel) (e : List KeyedAttribute) → holds indexes.now e s.may ≡ true →
+        DecidedAreTrue indexes.now n e v.items) }
     // What may be true holds each run of three octets that the filter's substrings items ask for.
     ensures runs { IfOk result (λ s. (e : List KeyedAttribute) → holds indexes.now e s.may ≡ true
         → has_runs_for indexes.now e filter.now ≡ true) }
@@ -141,7 +143,8 @@ pub fn compile(alloc: Global, filter: &BoundFilter, indexes: &Indexes) -> Result
     // in may; where the schema and the index choice decide the filter, both are its true set; on what may be of an
     // `and`, each part that they decide is true; and what may be has values that hold each run that its substrings
     // items ask for.
-    ensures filters { IfOk result (λ s. (m : SchemaModel) (t : Tree) → IsBoundTo m t filter.now → IsMadeOf m t filter.now
+    ensures filters { IfOk result (λ s. (m : SchemaModel) (t : Tree) → IsBoundTo m t filter.now →
+        IsMadeOf m t filter.now
         → ArePlansFor m indexes.now t s.must s.may) }
 {
     sets_are_of_entries();

@@ -235,8 +235,8 @@ fn from_lists<'a>(walks: Vec<Walk<'a>>) -> Drawn<'a>
     }
 }
 
-/// The candidates of a run. Where what must be and what may be are the same posting lists, each list is looked up once, and nothing else is asked of
-/// what they hold.
+/// The candidates of a run. Where what must be and what may be are the same posting lists, each list is looked up once,
+/// and nothing else is asked of what they hold.
 pub fn draw_sided<'a, K: PostingLists>(
     alloc: Global,
     sided: &Sided,
@@ -246,7 +246,8 @@ pub fn draw_sided<'a, K: PostingLists>(
     ensures covers { IfOk result (λ d. Covers (is_in (K.lists kept.now) scope.now sided.now.may) scope.now d.stream) }
     ensures rising { IfOk result (λ d. IsRising d.stream) }
     ensures inside { IfOk result (λ d. AreInside d.known.is_inside d.stream scope.now) }
-    ensures sure { IfOk result (λ d. AreSure d.known.is_sure (is_in (K.lists kept.now) scope.now sided.now.must) d.stream) }
+    ensures sure { IfOk result (λ d. AreSure d.known.is_sure (is_in (K.lists kept.now) scope.now sided.now.must)
+        d.stream) }
 {
     scope.rises();
     match listed(alloc, &sided.may, &sided.must, kept)? {

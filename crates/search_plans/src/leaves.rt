@@ -124,7 +124,8 @@ fn without(alloc: Global, plan: Plan) -> Result<Plan, AllocError>
 /// The plans that bound where a leaf is false whose test nobody can tell: where the type isn't there.
 fn unknown_false(alloc: Global, type_id: TypeId, indexes: &Indexes) -> Result<Sided, AllocError>
     ensures { IfOk result (λ s. Bounds indexes.now
-        (λ e. leaf_value e (record { type_id = type_id; test = Test.Unknown })) False (kinds_of indexes.now type_id).presence s.must s.may) }
+        (λ e. leaf_value e (record { type_id = type_id; test = Test.Unknown })) False
+        (kinds_of indexes.now type_id).presence s.must s.may) }
 {
     if indexes.kinds(type_id).presence {
         let must = without(alloc, Plan::Posting(Posting::Present(type_id)))?;

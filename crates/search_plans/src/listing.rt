@@ -24,8 +24,9 @@ fn is_same_posting(one: &Posting, other: &Posting) -> bool
     }
 }
 
-/// Where two plans are the same `or` of posting lists, puts the posting of each list behind those that are there. Empty plans may stand among the
-/// lists, as of a subtype in whose syntax the assertion isn't. `false` where they aren't the same; some postings may have come then.
+/// Where two plans are the same `or` of posting lists, puts the posting of each list behind those that are there. Empty
+/// plans may stand among the lists, as of a subtype in whose syntax the assertion isn't. `false` where they aren't the
+/// same; some postings may have come then.
 #[cycle(list)]
 pub fn push_listed<'p>(
     one: &'p Plan,
@@ -78,7 +79,8 @@ fn push_each_listed<'p>(
 
 /// A walk through each set.
 fn walks_of<'a>(alloc: Global, sets: &[&'a NumberSet]) -> Result<Vec<Walk<'a>>, AllocError>
-    ensures exact { IfOk result (λ v. (n : ℕ) → list_any (has_number n) v.items ≡ list_any (λ s. has_number n s.now) sets.now) }
+    ensures exact { IfOk result (λ v. (n : ℕ) → list_any (has_number n) v.items ≡ list_any (λ s. has_number n s.now)
+        sets.now) }
     ensures rising { IfOk result (λ v. AreRising v.items) }
 {
     let mut walks = Vec::with_capacity(alloc, sets.len())?;
@@ -105,8 +107,8 @@ pub struct ListWalks<'a> {
     pub numbers: u64,
 }
 
-/// Where two plans are the same `or` of posting lists, a walk through each of these. The lists are looked up together. None where the plans aren't
-/// the same.
+/// Where two plans are the same `or` of posting lists, a walk through each of these. The lists are looked up together.
+/// None where the plans aren't the same.
 pub fn listed<'a, K: PostingLists>(
     alloc: Global,
     one: &Plan,

@@ -11,8 +11,8 @@ use dir_index::Posting;
 use ldap_eval::{Key, PartKeys, TypeId};
 use std::alloc::{AllocError, Global};
 
-/// The most runs that a plan asks for. Each candidate is asked for all of them, and each run of a part is compared with those that
-/// are chosen; an entry that holds 64 runs of a part and not the part is rare.
+/// The most runs that a plan asks for. Each candidate is asked for all of them, and each run of a part is compared with
+/// those that are chosen; an entry that holds 64 runs of a part and not the part is rare.
 const MOST_RUNS: usize = 64;
 
 /// Adds a run, unless it is among those that are chosen or they are as many as a plan asks for.

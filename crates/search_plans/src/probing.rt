@@ -8,8 +8,8 @@ ghost use Rattle.search_plans.specs.private.Sets.{AreSameFrom};
 use dir_index::{NumberSet, NumberWalk};
 use std::marker::Model;
 
-/// Asks a set about rising numbers. Contracts see the numbers that are still to come: those below a number that was asked about have been
-/// passed.
+/// Asks a set about rising numbers. Contracts see the numbers that are still to come: those below a number that was
+/// asked about have been passed.
 #[derive(Drop)]
 pub struct Probe<'a> {
     walk: NumberWalk<'a>,
@@ -37,14 +37,16 @@ impl<'a> Probe<'a> {
         }
     }
 
-    /// The set that is asked: the first number that is still to come, and those above it in the set, are what is still to come.
+    /// The set that is asked: the first number that is still to come, and those above it in the set, are what is still
+    /// to come.
     pub fn numbers(&self) -> &'a NumberSet
         ensures { self.now ≡ ahead result.now (slice_get self.now 0) }
     {
         self.walk.set()
     }
 
-    /// Whether a number is still to come. The walk goes forward to it, which costs less than a look-up where it is near.
+    /// Whether a number is still to come. The walk goes forward to it, which costs less than a look-up where it is
+    /// near.
     pub fn has(&mut self, number: u64) -> bool
         ensures found { result ≡ has_number number self.old }
         ensures same { AreSameFrom number (λ n. has_number n self.new) (λ n. has_number n self.old) }

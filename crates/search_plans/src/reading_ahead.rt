@@ -7,7 +7,8 @@ use dir_index::NumberSet;
 /// A list of more numbers isn't read ahead: it wouldn't stay in the cache.
 const MOST: u64 = 16384;
 
-/// A list that has so many times the numbers of the shortest isn't read ahead either, since a run passes most of its leaves over.
+/// A list that has so many times the numbers of the shortest isn't read ahead either, since a run passes most of its
+/// leaves over.
 const TIMES: u64 = 16;
 
 /// How many numbers a list has; the most where there is none.

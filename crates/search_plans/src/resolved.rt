@@ -20,7 +20,8 @@ pub enum ResolvedPlan<'a> {
     Scope,
     /// The numbers of a posting list that are still to come.
     Set(Probe<'a>),
-    /// The numbers of the posting lists of the keys in a range. These are many lists, so what is kept is asked about each number.
+    /// The numbers of the posting lists of the keys in a range. These are many lists, so what is kept is asked about
+    /// each number.
     Range(&'a Range),
     /// The numbers of any of the plans.
     Union(Vec<ResolvedPlan<'a>>),
@@ -45,7 +46,8 @@ impl<'a> Drop for ResolvedPlan<'a> {
     }
 }
 
-/// The numbers of the first plan that are not of the second. The second isn't asked about a number that the first lacks.
+/// The numbers of the first plan that are not of the second. The second isn't asked about a number that the first
+/// lacks.
 fn difference<'a>(
     alloc: Global,
     first: ResolvedPlan<'a>,
@@ -100,8 +102,9 @@ fn resolve_each<'a, K: PostingLists>(
     Ok(resolved)
 }
 
-/// Looks up each posting list that a plan names, unless all numbers that will be asked about are known to be in its set. Then the
-/// scope stands for the plan, since it has each of them too: nothing is looked up, and no memory is taken.
+/// Looks up each posting list that a plan names, unless all numbers that will be asked about are known to be in its
+/// set. Then the scope stands for the plan, since it has each of them too: nothing is looked up, and no memory is
+/// taken.
 fn resolve_unless_sure<'a, K: PostingLists>(
     alloc: Global,
     plan: &'a Plan,
@@ -130,7 +133,8 @@ impl<'a> Drop for ResolvedSides<'a> {
     }
 }
 
-/// Looks up each posting list that the two plans of a run name, unless all its candidates are known to be among what must be found.
+/// Looks up each posting list that the two plans of a run name, unless all its candidates are known to be among what
+/// must be found.
 pub fn resolve_sided<'a, K: PostingLists>(
     alloc: Global,
     sided: &'a Sided,
@@ -145,12 +149,14 @@ pub fn resolve_sided<'a, K: PostingLists>(
     Ok(ResolvedSides { must, may })
 }
 
-/// Whether a number that is in scope is in the set of a resolved plan. Each posting list that is asked goes forward to the number, so the
-/// plan says nothing of lower numbers any more; of this number and of those above it the plan says what it said.
+/// Whether a number that is in scope is in the set of a resolved plan. Each posting list that is asked goes forward to
+/// the number, so the plan says nothing of lower numbers any more; of this number and of those above it the plan says
+/// what it said.
 #[cycle(has)]
 pub fn has_inside<K: PostingLists>(plan: &mut ResolvedPlan, kept: &K, number: u64) -> bool
     ensures found { result ≡ is_in_resolved (K.lists kept.now) plan.old number }
-    ensures same { AreSameFrom number (is_in_resolved (K.lists kept.now) plan.new) (is_in_resolved (K.lists kept.now) plan.old) }
+    ensures same { AreSameFrom number (is_in_resolved (K.lists kept.now) plan.new) (is_in_resolved (K.lists kept.now)
+        plan.old) }
 {
     match plan {
         ResolvedPlan::Empty => false,
@@ -163,7 +169,8 @@ pub fn has_inside<K: PostingLists>(plan: &mut ResolvedPlan, kept: &K, number: u6
     }
 }
 
-/// Whether a number that is in scope is in the set of one of the plans. Those behind the first that has it aren't asked.
+/// Whether a number that is in scope is in the set of one of the plans. Those behind the first that has it aren't
+/// asked.
 #[cycle(has)]
 fn any_has<K: PostingLists>(plans: &mut [ResolvedPlan], kept: &K, number: u64) -> bool
     ensures found { result ≡ list_any (λ p. is_in_resolved (K.lists kept.now) p number) plans.old }

@@ -39,11 +39,13 @@ impl<'a, K: PostingLists, V: Values> Model for PlanRun<'a, K, V> {
     ghost Value = { Progress };
 
     ghost view = { λ r. progress_of (is_in (K.lists r.criteria.kept.now) r.criteria.scope.now r.sided.now.must)
-        (is_in (K.lists r.criteria.kept.now) r.criteria.scope.now r.sided.now.may) (V.value_at r.values) r.criteria.scope.now r.stream
+        (is_in (K.lists r.criteria.kept.now) r.criteria.scope.now r.sided.now.may) (V.value_at r.values)
+        r.criteria.scope.now r.stream
         r.tests (V.looks r.values) };
 
     ghost invariant = { λ r. IsUnderWay (is_in (K.lists r.criteria.kept.now) r.criteria.scope.now r.sided.now.must)
-        (is_in (K.lists r.criteria.kept.now) r.criteria.scope.now r.sided.now.may) (V.value_at r.values) r.criteria.scope.now r.stream
+        (is_in (K.lists r.criteria.kept.now) r.criteria.scope.now r.sided.now.may) (V.value_at r.values)
+        r.criteria.scope.now r.stream
         r.tests (V.looks r.values) × AreInside r.criteria.is_inside r.stream r.criteria.scope.now
         × AreSameWithin (is_in_resolved (K.lists r.criteria.kept.now) r.sides.must)
         (is_in (K.lists r.criteria.kept.now) r.criteria.scope.now r.sided.now.must) r.criteria.scope.now r.stream
@@ -51,8 +53,8 @@ impl<'a, K: PostingLists, V: Values> Model for PlanRun<'a, K, V> {
         (is_in (K.lists r.criteria.kept.now) r.criteria.scope.now r.sided.now.may) r.criteria.scope.now r.stream };
 }
 
-/// Where it is known that all that is drawn will be found, tells of the numbers that come next in several walks; not where a list of them
-/// finds no memory.
+/// Where it is known that all that is drawn will be found, tells of the numbers that come next in several walks; not
+/// where a list of them finds no memory.
 fn expect_heads<V: Values>(alloc: Global, is_sure: bool, stream: &Stream, values: &mut V)
     ensures { values.new ≡ values.old }
 {
@@ -64,8 +66,8 @@ fn expect_heads<V: Values>(alloc: Global, is_sure: bool, stream: &Stream, values
     }
 }
 
-/// Starts a run of two plans that bound the entries whose value is True, within a scope. It looks up the posting lists that the
-/// plans name, and takes the memory for the candidates and for the resolved plans; the run takes none.
+/// Starts a run of two plans that bound the entries whose value is True, within a scope. It looks up the posting lists
+/// that the plans name, and takes the memory for the candidates and for the resolved plans; the run takes none.
 pub fn start<'a, K: PostingLists, V: Values + Drop>(
     alloc: Global,
     sided: &'a Sided,
@@ -109,7 +111,8 @@ impl<'a, K: PostingLists, V: Values> PlanRun<'a, K, V> {
             (λ n. self.old.to_come ≡ n ∷ self.new.to_come) }
         ensures same { self.new.open_numbers ≡ self.old.open_numbers }
         ensures few { self.new.tests ≤ length self.new.open_numbers }
-        // Those left open up to the number that is given were asked for, and no others; all of them, where none is given.
+        // Those left open up to the number that is given were asked for, and no others; all of them, where none is
+        // given.
         ensures asked { MatchOption result (self.new.tests ≡ length self.new.open_numbers)
             (λ m. self.new.tests ≡ length (filter (λ n. nat_le n m) self.new.open_numbers)) }
         ensures counted { self.new.looks + self.old.tests ≡ self.old.looks + self.new.tests }

@@ -12,7 +12,8 @@ use crate::scope::Scope;
 use crate::values::Values;
 use dir_index::{PostingLists, Truth};
 
-/// What decides about the candidates of a run, besides its plans: what is kept, and the scope. It stays the same for all of them.
+/// What decides about the candidates of a run, besides its plans: what is kept, and the scope. It stays the same for
+/// all of them.
 pub struct Criteria<'a, K: PostingLists> {
     pub kept: &'a K,
     pub scope: &'a Scope<'a>,
@@ -31,10 +32,11 @@ impl<'a, K: PostingLists> Drop for Criteria<'a, K> {
     }
 }
 
-/// Whether the entry of a candidate is to be given: it is in scope, and its value is True. The plans are asked first, since most candidates of an
-/// intersection fail there, and the scope is the largest set. The value is asked for only where the plans leave it open. Whether it must be
-/// True is asked before whether it may: a filter that the indexes decide then is asked about once, and one that they don't has little that must be.
-/// Of this candidate and of those above it the plans say afterwards what they said.
+/// Whether the entry of a candidate is to be given: it is in scope, and its value is True. The plans are asked first,
+/// since most candidates of an intersection fail there, and the scope is the largest set. The value is asked for only
+/// where the plans leave it open. Whether it must be True is asked before whether it may: a filter that the indexes
+/// decide then is asked about once, and one that they don't has little that must be. Of this candidate and of those
+/// above it the plans say afterwards what they said.
 pub fn is_found<K: PostingLists, V: Values>(
     sides: &mut ResolvedSides,
     criteria: &Criteria<K>,

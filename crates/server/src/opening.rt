@@ -98,8 +98,8 @@ pub fn fault_of_node(error: NodeError) -> ServerError {
     }
 }
 
-/// The device of a first start, which may hold no stored view, since a replica that forgets what it has promised could break what others rely
-/// on; and nothing else.
+/// The device of a first start, which may hold no stored view, since a replica that forgets what it has promised could
+/// break what others rely on; and nothing else.
 fn unused(device: FileDevice, cluster: Cluster) -> Result<FileDevice, ServerError> {
     let holds_nothing = device.holds_nothing(cluster);
     let mut views = ViewStore::new(device, cluster);
@@ -116,7 +116,8 @@ fn unused(device: FileDevice, cluster: Cluster) -> Result<FileDevice, ServerErro
     }
 }
 
-/// The device of a later start, which has to hold a stored view of the cluster's. It is synced before anything is made of it.
+/// The device of a later start, which has to hold a stored view of the cluster's. It is synced before anything is made
+/// of it.
 fn used(device: FileDevice, cluster: Cluster) -> Result<FileDevice, ServerError> {
     let mut views = ViewStore::new(device, cluster);
     match views.load() {
@@ -219,8 +220,8 @@ fn is_one_file<R: Files<File = File>>(rt: &R, view: &ViewGuard, journal: Option<
     }
 }
 
-/// The node of a first or a later start, over the files of these names, and its seats; and what looks at its files. The stored view is judged
-/// before the journal, and both before anything is written to either.
+/// The node of a first or a later start, over the files of these names, and its seats; and what looks at its files. The
+/// stored view is judged before the journal, and both before anything is written to either.
 pub fn open_node<'a, R: Files<File = File> + Wait>(
     rt: &'a R,
     alloc: Global,

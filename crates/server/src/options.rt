@@ -34,8 +34,8 @@ pub struct Options<'a> {
     pub seats: usize,
     /// How many sessions there may be; fewer, where the system has fewer descriptors.
     pub sessions: usize,
-    /// How many MiB of memory clients may take together, at most a quarter of the machine's; where that isn't told, an eighth of it, 64 MiB at least and
-    /// 1 GiB at most.
+    /// How many MiB of memory clients may take together, at most a quarter of the machine's; where that isn't told, an
+    /// eighth of it, 64 MiB at least and 1 GiB at most.
     pub memory_for_clients: Option<u64>,
     /// How many threads wait for updates; 1 to 256, and what is outside counts as the nearer of the two.
     pub updates: usize,

@@ -14,8 +14,8 @@ pub struct PeerQueues<'a, R> {
 }
 
 impl<'a, R: Wait> PeerQueues<'a, R> {
-    /// Puts a message into the queue to the replica of this index, at this moment. One that asks for state again too early is lost, as the network
-    /// may lose it.
+    /// Puts a message into the queue to the replica of this index, at this moment. One that asks for state again too
+    /// early is lost, as the network may lose it.
     fn post(&self, now: u64, to: u64, message: PeerMessage<Op>) {
         if matches!(message, PeerMessage::GetState { .. })
             && !self.asking.lock(self.rt).take_turn(now)

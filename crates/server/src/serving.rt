@@ -157,7 +157,8 @@ where
     server.run(ways, gates, terms.sessions, &terms.config)
 }
 
-/// Sends what an opened node sends first, and runs all threads over what they share, which is the node with this identity.
+/// Sends what an opened node sends first, and runs all threads over what they share, which is the node with this
+/// identity.
 fn serve_opened<R, N, I>(
     alloc: Global,
     opened: Opened<'_, R, FileDevice, JournalFile>,
@@ -182,8 +183,8 @@ where
     run_in(alloc, seats, &running, &peer_queues, guards, terms)
 }
 
-/// What the start of this node says of itself: it goes on from what it kept, unless it recovers. Its mark is the moment, so that two starts over copies
-/// of the same files have different ones.
+/// What the start of this node says of itself: it goes on from what it kept, unless it recovers. Its mark is the
+/// moment, so that two starts over copies of the same files have different ones.
 fn claim_of<R: Clock>(rt: &R, node: &Node<FileDevice, JournalFile>) -> Result<Claim, ServerError> {
     let Ok(moment) = rt.since_1970() else {
         return Err(ServerError::NoClock);
@@ -286,9 +287,9 @@ where
     serve_opened::<R, N, Brand>(alloc, opened, peer_queues, &guards, terms)
 }
 
-/// Serves as a replica: listens to the others, opens its node, and serves them, and clients once the node has a state, until the node has stopped
-/// for good. Where clients are heard is said on standard output, once they are. It ends only with an error; where the process is ended from
-/// outside, its replica has crashed in the protocol's sense.
+/// Serves as a replica: listens to the others, opens its node, and serves them, and clients once the node has a state,
+/// until the node has stopped for good. Where clients are heard is said on standard output, once they are. It ends only
+/// with an error; where the process is ended from outside, its replica has crashed in the protocol's sense.
 pub fn serve<R, N>(rt: &R, alloc: Global, options: Options<'_>) -> Result<(), ServerError>
 where
     R: ServerRuntime<N>,

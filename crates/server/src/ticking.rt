@@ -67,13 +67,13 @@ pub struct TimedNode<'a, 'r, R: Wait, I: NodeIdentity> {
     /// How many entries the directory had then, and how many records the log.
     pub entries: AtomicU64,
     pub log_length: AtomicU64,
-    /// What looks at the file of the stored view, and at that of the journal, where it keeps one; and which start of the replica stored the view,
-    /// counted from 1.
+    /// What looks at the file of the stored view, and at that of the journal, where it keeps one; and which start of
+    /// the replica stored the view, counted from 1.
     pub view_guard: &'a ViewGuard,
     pub journal_guard: &'a Option<JournalGuard>,
     pub restarts: u64,
-    /// How many records the journal told of the log, where the node is still to catch up with them; asked before any thread begins, since it may
-    /// catch up at once.
+    /// How many records the journal told of the log, where the node is still to catch up with them; asked before any
+    /// thread begins, since it may catch up at once.
     pub resumed: Option<u64>,
     /// Whether the program's proofs were checked.
     pub is_proved: bool,
@@ -158,8 +158,8 @@ impl<'a, 'r, R: Wait + Clock, I: NodeIdentity> TimedNode<'a, 'r, R, I> {
         }
     }
 
-    /// Sends a primary's last beat once more, where the node is at a step for longer than a beat: the others are to know that it is there. It is silent where
-    /// the step never seems to end, so that they go on without it.
+    /// Sends a primary's last beat once more, where the node is at a step for longer than a beat: the others are to
+    /// know that it is there. It is silent where the step never seems to end, so that they go on without it.
     fn beat_again(&self, watch: &mut Watch, now: u64) {
         let leads = watch.pulse.standing == Standing::Primary;
         if !watch.steps.beats_again(leads, &mut watch.pace, now) {
@@ -220,7 +220,8 @@ impl<'a, 'r, R: Wait + Clock, I: NodeIdentity> TimedNode<'a, 'r, R, I> {
         }
     }
 
-    /// The whole message, where records were left out of it that the node has committed; else it is lost, as the network may lose it, and comes again.
+    /// The whole message, where records were left out of it that the node has committed; else it is lost, as the
+    /// network may lose it, and comes again.
     fn whole(&self, message: PeerMessage<Op>, noted: Option<u64>) -> Option<PeerMessage<Op>> {
         let Some(left_out) = noted else {
             return Some(message);

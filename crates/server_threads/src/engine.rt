@@ -17,8 +17,8 @@ pub trait Engine: Monitored + MessageHandler {
     /// Does what is due, moment by moment, until the node is stopped, or has stopped for good.
     fn run(&self) -> Result<(), ServerError>;
 
-    /// Hands the node what waits for it, batch by batch, until it is stopped, or has stopped for good; at once where nothing waits for a
-    /// thread that drives the node.
+    /// Hands the node what waits for it, batch by batch, until it is stopped, or has stopped for good; at once where
+    /// nothing waits for a thread that drives the node.
     fn drive(&self) -> Result<(), ServerError>;
 
     /// Has those who wait for an update's outcome look whether their clients have left. It takes no lock.

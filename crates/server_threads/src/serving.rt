@@ -87,7 +87,8 @@ where
         }
     }
 
-    /// Waits until the node has a state that clients may ask: before, a client had better go on to another replica. Whether the server goes on.
+    /// Waits until the node has a state that clients may ask: before, a client had better go on to another replica.
+    /// Whether the server goes on.
     fn wait_for_state(&self) -> bool {
         let mut goes_on = false;
         for _ in self.rt.forever() {
@@ -113,7 +114,8 @@ where
         }
     }
 
-    /// A directory whose answers are counted, and of which updates and slow searches are logged; whether it is asked for updates alone.
+    /// A directory whose answers are counted, and of which updates and slow searches are logged; whether it is asked
+    /// for updates alone.
     fn logged<D>(&self, way: D, updates: bool) -> Logged<'a, R, D> {
         let shared_parts: &'a SharedParts = self.shared_parts;
         Logged::new(
@@ -147,7 +149,8 @@ where
         Ok(logged)
     }
 
-    /// Serves clients, once the node has a state, until the server closes: reads by one list of directories, updates by the other.
+    /// Serves clients, once the node has a state, until the server closes: reads by one list of directories, updates by
+    /// the other.
     fn serve_clients<D: Directory + Send + Drop, U: Directory + Send + Drop>(
         &self,
         ways: Vec<D>,
@@ -232,7 +235,8 @@ where
         self.end_with(self.engine.drive())
     }
 
-    /// Drives the node and runs its clock, until that ends; then all threads end. Why the node stopped is told before that its clock did.
+    /// Drives the node and runs its clock, until that ends; then all threads end. Why the node stopped is told before
+    /// that its clock did.
     fn drive_and_tick(&self) -> Result<(), ServerError> {
         let (driven, ticked) = thread::join(
             self.rt,
@@ -331,8 +335,8 @@ where
         self.shared_parts.reporter.write_all(self.rt, &mut error);
     }
 
-    /// All threads, to the end of the last: clients, replicas, and the node's clock, in the thread that calls. What was said by then is written
-    /// before it ends.
+    /// All threads, to the end of the last: clients, replicas, and the node's clock, in the thread that calls. What was
+    /// said by then is written before it ends.
     pub fn run<D: Directory + Send + Drop, U: Directory + Send + Drop>(
         &self,
         ways: Vec<D>,

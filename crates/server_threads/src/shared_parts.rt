@@ -204,7 +204,8 @@ impl Drop for SharedParts {
     }
 }
 
-/// The listeners of the replica of this index, and all that its threads share, of which so many update. Replicas that have other terms are refused.
+/// The listeners of the replica of this index, and all that its threads share, of which so many update. Replicas that
+/// have other terms are refused.
 pub fn make_shared_parts<R: Net<Listener = TcpListener, Stream = TcpStream>>(
     rt: &R,
     alloc: Global,

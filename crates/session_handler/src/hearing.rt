@@ -54,7 +54,12 @@ fn silence_of(request: &Request) -> Option<Next>
 /// A request with a response, by its controls.
 fn hear_controls(id: u32, request: Request, controls: &[Control]) -> Heard
     requires answered { silence_of (request_view request) ≡ None }
-    ensures { IsHeard result (record { id = id; op = request_operation (request_view request); controls = map control_view controls.now }) }
+    ensures { IsHeard result (record {
+      id = id;
+      op = request_operation (request_view request);
+      controls =
+          map control_view controls.now;
+    }) }
 {
     let answering = answering_of(&request);
     match judge(kind_of(&request), controls) {
@@ -76,7 +81,12 @@ fn hear_controls(id: u32, request: Request, controls: &[Control]) -> Heard
 
 /// A request, by whether it has a response and by its controls.
 fn hear_request(id: u32, request: Request, controls: &[Control]) -> Heard
-    ensures { IsHeard result (record { id = id; op = request_operation (request_view request); controls = map control_view controls.now }) }
+    ensures { IsHeard result (record {
+      id = id;
+      op = request_operation (request_view request);
+      controls =
+          map control_view controls.now;
+    }) }
 {
     match silence_of(&request) {
         Some(next) => Heard::Silence { next },

@@ -1,13 +1,14 @@
 //! Answers one message of a session by a directory that it is given: the octets of the responses,
 //! and the session's state after it.
 //!
-//! What a session makes of one message when it asks a directory. `hearing` finds what is due. A request that waits for its answer is one
-//! value with the session's terms (`task`), which asks the directory (`taking`), for updates too (`updating`); `responses` has the answers,
-//! which stand in one row of octets (`rows`).
+//! What a session makes of one message when it asks a directory. `hearing` finds what is due. A request that waits for
+//! its answer is one value with the session's terms (`task`), which asks the directory (`taking`), for updates too
+//! (`updating`); `responses` has the answers, which stand in one row of octets (`rows`).
 //!
-//! Proved, with the two crates above: a message's checks in their order, its controls, its one question to the directory after the role,
-//! and the written responses (`judge`, `bind`, `take`, `role_is_first`). Talks of messages join to that of a session (`sessions_join`),
-//! whose reads never go back (`reads_rise`). Only what `may_update` says of beforehand asks for an update (`others_do_not_update`).
+//! Proved, with the two crates above: a message's checks in their order, its controls, its one question to the
+//! directory after the role, and the written responses (`judge`, `bind`, `take`, `role_is_first`). Talks of messages
+//! join to that of a session (`sessions_join`), whose reads never go back (`reads_rise`). Only what `may_update` says
+//! of beforehand asks for an update (`others_do_not_update`).
 #![tactic(auto)]
 
 mod answered;

@@ -163,8 +163,10 @@ fn put_found(
     entry: &FoundEntry,
     octets: &mut Vec<u8>,
 ) -> Result<(), AnswerError>
-    ensures ok { OnOk result (octets.new.items ≡ octets.old.items ++ message_bytes (message id (search_entry (found_view entry.now)) [])) }
-    ensures too_long { IsErrOf result AnswerError.TooLong → 2 ^ 32 ≤ length (message_content (message id (search_entry (found_view entry.now)) [])) }
+    ensures ok { OnOk result (octets.new.items ≡ octets.old.items ++ message_bytes
+        (message id (search_entry (found_view entry.now)) [])) }
+    ensures too_long { IsErrOf result AnswerError.TooLong →
+        2 ^ 32 ≤ length (message_content (message id (search_entry (found_view entry.now)) [])) }
 {
     entry.put(alloc, id, octets).map_err(|error| match error {
         EncodeError::TooLong => AnswerError::TooLong,
@@ -205,7 +207,8 @@ fn entry_responses(
     entries: Vec<FoundEntry>,
 ) -> Result<Responses, AnswerError>
     ensures ok { IfOk result (λ r. r ≡ map message_bytes (entry_messages id (map found_view entries.items))) }
-    ensures too_long { IsErrOf result AnswerError.TooLong → HasTooLong (entry_messages id (map found_view entries.items)) }
+    ensures too_long { IsErrOf result AnswerError.TooLong →
+        HasTooLong (entry_messages id (map found_view entries.items)) }
 {
     let mut octets = room_for(alloc, entries.len())?;
     let mut lengths = SmallVec::with_capacity(alloc, entries.len().saturating_add(1))?;

@@ -11,8 +11,8 @@ pub struct State {
     pub identity: Identity,
     /// The number of the last request of its own client, from 1; 0 before the first.
     pub requests: u64,
-    /// The greatest number that it has seen, of its updates and of the states that its reads were answered from; 0 before
-    /// the first. It reads from there on, whichever seat serves it.
+    /// The greatest number that it has seen, of its updates and of the states that its reads were answered from; 0
+    /// before the first. It reads from there on, whichever seat serves it.
     pub floor: u64,
 }
 

@@ -56,7 +56,8 @@ fn compare_number(outcome: &Result<Found<Reply>, LookError>) -> u64
 
 /// Asks for the role of the replica, and learns what is told with it.
 fn ask_role<D: Directory>(alloc: Global, directory: &mut D) -> Role
-    ensures { (told : D.Told) × Along D.allows directory.old (asked_role (role_view result) told ∷ learned told ∷ []) directory.new }
+    ensures { (told : D.Told) × Along D.allows directory.old (asked_role (role_view result) told ∷ learned told ∷ [])
+        directory.new }
 {
     let (role, told) = directory.role(alloc);
     directory.learn(told);
@@ -67,7 +68,8 @@ impl Task<'_> {
     /// Binds, and answers. The session is anonymous while the bind is judged.
     fn take_bind(&self, state: &mut State, request: &BindRequest) -> Result<Answered, AnswerError>
         ensures { IsDone (bound_reaction state.old self.now.pending.id (bound (config_view self.now.config).schema
-            (config_view self.now.config).manager (config_view self.now.config).password (bind_view request.now))) state.new result }
+            (config_view self.now.config).manager (config_view self.now.config).password (bind_view request.now)))
+            state.new result }
     {
         state.identity = Identity::Anonymous;
         let bound = bind(
@@ -134,8 +136,10 @@ impl Task<'_> {
         request: &Request,
     ) -> Result<Answered, AnswerError>
         requires other { update_of (request_view request.now) ≡ None }
-        ensures { (role : RoleValue) → HasTaken D.allows directory.old directory.new (OutcomeOf state.old self.now.pending
-            (asked_of (config_view self.now.config) state.old self.now.pending (request_view request.now) role)) state.new result }
+        ensures { (role : RoleValue) → HasTaken D.allows directory.old directory.new
+            (OutcomeOf state.old self.now.pending
+            (asked_of (config_view self.now.config) state.old self.now.pending (request_view request.now) role))
+            state.new result }
     {
         match request {
             Request::Bind(bind) => self.take_bind(state, bind),
@@ -159,7 +163,8 @@ impl Task<'_> {
         request: Request,
     ) -> Result<Answered, AnswerError>
         ensures { HasTaken D.allows directory.old directory.new (OutcomeOf state.old self.now.pending
-            (asked_of (config_view self.now.config) state.old self.now.pending (request_view request) (role_view role))) state.new result }
+            (asked_of (config_view self.now.config) state.old self.now.pending (request_view request)
+            (role_view role))) state.new result }
     {
         match update_in(request) {
             Ok(update) => self.ask_update(state, directory, role, update),
@@ -177,7 +182,8 @@ impl Task<'_> {
         request: Request,
     ) -> Result<Answered, AnswerError>
         ensures { HasTaken D.allows directory.old directory.new (OutcomeOf state.old self.now.pending
-            (asked (config_view self.now.config) state.old self.now.pending (request_view request) (role_view role))) state.new result }
+            (asked (config_view self.now.config) state.old self.now.pending (request_view request) (role_view role)))
+            state.new result }
     {
         if is_recovering(&role) {
             self.refuse(state, ResultCode::UNAVAILABLE)
@@ -196,15 +202,16 @@ impl Task<'_> {
     ) -> Result<Answered, AnswerError>
         requires kind { self.now.pending.answering ≡ answering_of (request_view request) }
         ensures { HasTaken D.allows directory.old directory.new
-            (Inquiry (config_view self.now.config) state.old self.now.pending.id (request_view request) self.now.pending.named) state.new result }
+            (Inquiry (config_view self.now.config) state.old self.now.pending.id (request_view request)
+            self.now.pending.named) state.new result }
     {
         let role = ask_role(self.alloc, directory);
         self.take_at(state, directory, role, request)
     }
 }
 
-/// What a session makes of one message: the octets of the responses, and whether the session goes on. A message that is no request gets the
-/// Notice of Disconnection (RFC 4511 4.4.1).
+/// What a session makes of one message: the octets of the responses, and whether the session goes on. A message that is
+/// no request gets the Notice of Disconnection (RFC 4511 4.4.1).
 pub fn take<D: Directory>(
     alloc: Global,
     config: &Config,
@@ -212,8 +219,10 @@ pub fn take<D: Directory>(
     directory: &mut D,
     message: Message,
 ) -> Result<Answered, AnswerError>
-    // The directory goes along a talk that is a turn of the session at this message, and what the session makes of it is done.
-    ensures { HasTaken D.allows directory.old directory.new (Turn (config_view config.now) state.old (view message)) state.new result }
+    // The directory goes along a talk that is a turn of the session at this message, and what the session makes of it
+    // is done.
+    ensures { HasTaken D.allows directory.old directory.new (Turn (config_view config.now) state.old (view message))
+        state.new result }
 {
     match hear(message) {
         Heard::NoRequest => disconnect(alloc),

@@ -61,7 +61,8 @@ impl Task<'_> {
 
     /// Sends the request to where updates are made.
     pub fn refer(&self, state: &mut State, uri: String) -> Result<Answered, AnswerError>
-        ensures { IsDone (refused state.old self.now.pending.id self.now.pending.answering (referral_to (string_bytes uri))) state.new result }
+        ensures { IsDone (refused state.old self.now.pending.id self.now.pending.answering
+            (referral_to (string_bytes uri))) state.new result }
     {
         let Pending { id, answering, .. } = self.pending;
         state.identity = identity_refused(state.identity, answering);

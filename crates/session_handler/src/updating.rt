@@ -28,7 +28,8 @@ struct ClientRequest {
 impl Task<'_> {
     /// The response to the update, which was made or refused under this number.
     fn say_done(&self, number: u64, reply: Reply) -> Result<Answered, AnswerError>
-        ensures { AreSaid (done_message self.now.pending.id self.now.pending.answering self.now.pending.named.number number (reply_view reply) ∷ [])
+        ensures { AreSaid (done_message self.now.pending.id self.now.pending.answering self.now.pending.named.number
+            number (reply_view reply) ∷ [])
             Next.GoesOn result }
     {
         let Pending {
@@ -43,7 +44,8 @@ impl Task<'_> {
 
     /// What the update came to, once it was asked.
     fn end(&self, state: &mut State, ended: Ended) -> Result<Answered, AnswerError>
-        ensures { IsDone (after_update state.old self.now.pending.id self.now.pending.answering self.now.pending.named (ended_view ended))
+        ensures { IsDone (after_update state.old self.now.pending.id self.now.pending.answering self.now.pending.named
+            (ended_view ended))
             state.new result }
     {
         match ended {
@@ -69,7 +71,8 @@ impl Task<'_> {
     ) -> Result<Answered, AnswerError>
         requires requests { requests ≡ requests_after state.old.requests self.now.pending.named.request }
         ensures { HasTaken D.allows directory.old directory.new
-            (OutcomeOf state.old self.now.pending (an_update request.client request.number (update_view update))) state.new result }
+            (OutcomeOf state.old self.now.pending (an_update request.client request.number (update_view update)))
+            state.new result }
     {
         state.requests = requests;
         let ended = directory.update(self.alloc, request.client, request.number, update);
@@ -86,7 +89,8 @@ impl Task<'_> {
     ) -> Result<Answered, AnswerError>
         requires own { self.now.pending.named.request ≡ None }
         ensures { HasTaken D.allows directory.old directory.new (OutcomeOf state.old self.now.pending
-            (update_as (config_view self.now.config) state.old self.now.pending (update_view update) None)) state.new result }
+            (update_as (config_view self.now.config) state.old self.now.pending (update_view update) None)) state.new
+            result }
     {
         if state.requests < GREATEST {
             let number = state.requests + 1;
@@ -107,7 +111,8 @@ impl Task<'_> {
         directory: &mut D,
         update: Update,
     ) -> Result<Answered, AnswerError>
-        ensures { HasTaken D.allows directory.old directory.new (OutcomeOf state.old self.now.pending (update_as (config_view self.now.config)
+        ensures { HasTaken D.allows directory.old directory.new (OutcomeOf state.old self.now.pending
+            (update_as (config_view self.now.config)
             state.old self.now.pending (update_view update) self.now.pending.named.request)) state.new result }
     {
         match self.pending.named.request {
@@ -133,7 +138,8 @@ impl Task<'_> {
         update: Update,
     ) -> Result<Answered, AnswerError>
         ensures { HasTaken D.allows directory.old directory.new (OutcomeOf state.old self.now.pending
-            (update_at (config_view self.now.config) state.old self.now.pending (update_view update) (role_view role))) state.new result }
+            (update_at (config_view self.now.config) state.old self.now.pending (update_view update)
+            (role_view role))) state.new result }
     {
         match role {
             Role::Primary => self.ask_as(state, directory, update),
@@ -152,8 +158,10 @@ impl Task<'_> {
         role: Role,
         update: Update,
     ) -> Result<Answered, AnswerError>
-        ensures { HasTaken D.allows directory.old directory.new (OutcomeOf state.old self.now.pending (update_by state.old.identity
-            (config_view self.now.config) state.old self.now.pending (update_view update) (role_view role))) state.new result }
+        ensures { HasTaken D.allows directory.old directory.new (OutcomeOf state.old self.now.pending
+            (update_by state.old.identity
+            (config_view self.now.config) state.old self.now.pending (update_view update) (role_view role))) state.new
+            result }
     {
         match state.identity {
             Identity::Manager => self.ask_at(state, directory, role, update),

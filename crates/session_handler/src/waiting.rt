@@ -28,8 +28,8 @@ fn is_update_in_order(message: &Message) -> bool
     }
 }
 
-/// Whether a message may ask for an update: it is one of the manager's, and its controls don't refuse it. It takes no memory, and reads nothing of
-/// other messages than who wants them.
+/// Whether a message may ask for an update: it is one of the manager's, and its controls don't refuse it. It takes no
+/// memory, and reads nothing of other messages than who wants them.
 pub fn may_update(state: &State, message: &Message) -> bool
     ensures { result ≡ may_update state.now (view message.now) }
 {

@@ -9,7 +9,8 @@ use dir_store::{LogEntry, Op, Reply, Store};
 use std::alloc::{AllocError, Global};
 use std::marker::Model;
 
-/// The records that were executed, the directory after them and the reply to each. Records share their payloads with the log.
+/// The records that were executed, the directory after them and the reply to each. Records share their payloads with
+/// the log.
 pub struct Executed {
     records: Vec<LogEntry<Op>>,
     replies: Vec<Reply>,
@@ -33,16 +34,29 @@ impl Model for Executed {
 
     ghost Value = { ExecutedValue };
 
-    ghost view = { λ e. record { schema = e.store.directory.schema; suffix = e.store.directory.suffix; indexes = e.store.indexes; records = e.records.items } };
+    ghost view = { λ e. record {
+      schema = e.store.directory.schema;
+      suffix = e.store.directory.suffix;
+      indexes =
+          e.store.indexes;
+      records = e.records.items;
+    } };
 
-    ghost invariant = { λ e. IsFold e.store.directory.schema e.store.directory.suffix e.records.items e.store.directory (replies_view e.replies.items) };
+    ghost invariant = { λ e. IsFold e.store.directory.schema e.store.directory.suffix e.records.items
+        e.store.directory (replies_view e.replies.items) };
 }
 
 impl Executed {
     /// Nothing yet, over a directory without entries. It takes no memory.
     pub fn new(alloc: Global, store: Store) -> Executed
         requires empty { store.directory.entries ≡ [] }
-        ensures { result ≡ record { schema = store.directory.schema; suffix = store.directory.suffix; indexes = store.indexes; records = [] } }
+        ensures { result ≡ record {
+          schema = store.directory.schema;
+          suffix = store.directory.suffix;
+          indexes =
+              store.indexes;
+          records = [];
+        } }
     {
         Executed {
             records: Vec::new(alloc),
@@ -80,8 +94,8 @@ impl Executed {
         self.replies.get(place)
     }
 
-    /// Executes one more record. The room is made first, the update comes after, and what then is left can't be refused: at an error, which is
-    /// want of memory, nothing has changed.
+    /// Executes one more record. The room is made first, the update comes after, and what then is left can't be
+    /// refused: at an error, which is want of memory, nothing has changed.
     fn next(&mut self, alloc: Global, entry: &LogEntry<Op>) -> Result<(), AllocError>
         ensures records { OnOk result (self.new.records ≡ self.old.records ++ entry.now ∷ []) }
         ensures schema { OnOk result (self.new.schema ≡ self.old.schema) }
@@ -99,15 +113,18 @@ impl Executed {
         Ok(())
     }
 
-    /// Executes the committed records of a log that come next, in their order. Want of memory, its only error, stops it between two of them.
+    /// Executes the committed records of a log that come next, in their order. Want of memory, its only error, stops it
+    /// between two of them.
     pub fn advance(
         &mut self,
         alloc: Global,
         log: &[LogEntry<Op>],
         commit_number: u64,
     ) -> Result<(), AllocError>
-        ensures ok { OnOk result (self.new.records ≡ self.old.records ++ due_after (length self.old.records) commit_number log.now) }
-        ensures err { OnErr result (IsFront self.old.records (due_after (length self.old.records) commit_number log.now) self.new.records) }
+        ensures ok { OnOk result (self.new.records ≡ self.old.records ++ due_after (length self.old.records)
+            commit_number log.now) }
+        ensures err { OnErr result (IsFront self.old.records (due_after (length self.old.records) commit_number
+            log.now) self.new.records) }
         ensures schema { self.new.schema ≡ self.old.schema }
         ensures suffix { self.new.suffix ≡ self.old.suffix }
         ensures indexes { self.new.indexes ≡ self.old.indexes }

@@ -81,8 +81,8 @@ fn full_snapshot<P: Payload>(
     Ok(Snapshot { log, commit_number })
 }
 
-/// What a replica with this log, of which it has committed so much, makes of a message that leaves out the first `base` records of its log:
-/// the whole message, or nothing where it lacks some of these. Its only error is want of memory.
+/// What a replica with this log, of which it has committed so much, makes of a message that leaves out the first `base`
+/// records of its log: the whole message, or nothing where it lacks some of these. Its only error is want of memory.
 pub fn fill<P: Payload>(
     alloc: Global,
     own: &[LogEntry<P>],

@@ -31,8 +31,9 @@ fn kind_of<P>(message: &PeerMessage<P>) -> Kind
     }
 }
 
-/// A message as it goes to a replica that has said that it has committed so much, and the number that goes with it: how many records it leaves
-/// out, or, with a STARTVIEWCHANGE, how many this replica has committed. Its only error is want of memory.
+/// A message as it goes to a replica that has said that it has committed so much, and the number that goes with it: how
+/// many records it leaves out, or, with a STARTVIEWCHANGE, how many this replica has committed. Its only error is want
+/// of memory.
 pub fn noted<P: Payload>(
     alloc: Global,
     message: PeerMessage<P>,

@@ -31,7 +31,8 @@ fn short_change<P: Payload>(
     change: Change<P>,
     most: u64,
 ) -> Result<(u64, Change<P>), AllocError>
-    ensures { IfOk result (λ r. let x = min most (min change.commit_number (length change.log)) in r ≡ (x, record change { log = drop x change.log })) }
+    ensures { IfOk result (λ r. let x = min most (min change.commit_number (length change.log)) in r ≡
+        (x, record change { log = drop x change.log })) }
 {
     let Change {
         log,
@@ -54,7 +55,8 @@ fn short_snapshot<P: Payload>(
     held: Snapshot<P>,
     most: u64,
 ) -> Result<(u64, Snapshot<P>), AllocError>
-    ensures { IfOk result (λ r. let x = min most (min held.commit_number (length held.log)) in r ≡ (x, record held { log = drop x held.log })) }
+    ensures { IfOk result (λ r. let x = min most (min held.commit_number (length held.log)) in r ≡
+        (x, record held { log = drop x held.log })) }
 {
     let Snapshot { log, commit_number } = held;
     let base = most_of(most, commit_number, &log);
@@ -62,8 +64,8 @@ fn short_snapshot<P: Payload>(
     Ok((base, Snapshot { log, commit_number }))
 }
 
-/// How many records are left out of a message to a replica that has said that it has committed at least so many, and the message without
-/// them. Its only error is want of memory.
+/// How many records are left out of a message to a replica that has said that it has committed at least so many, and
+/// the message without them. Its only error is want of memory.
 pub fn shorten<P: Payload>(
     alloc: Global,
     message: PeerMessage<P>,
