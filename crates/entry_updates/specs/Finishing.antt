@@ -5,8 +5,8 @@ use Rattle.entry_changes.specs.ldap_dn.Names.{TypeAndValue}
 use Rattle.entry_changes.specs.dir_entry.Entry.{AttributeModel}
 use Rattle.entry_changes.specs.dir_entry.Adding.{refuse}
 use Rattle.entry_changes.specs.Naming.{and_then, with_rdn, without_rdn, has_rdn}
-use Rattle.entry_classes.specs.Classes.{completed, settled}
-use Rattle.entry_classes.specs.Structural.{kept_completed}
+use Rattle.entry_updates.specs.Classes.{completed, settled}
+use Rattle.entry_updates.specs.Structural.{kept_completed}
 
 -- the attributes of a new entry: those given, the values of its relative name, then what its classes demand (RFC 4511
 -- 4.7)

@@ -4,8 +4,8 @@ ghost use Rattle.entry_changes.specs.dir_entry.Entry.{attributes_of, IsKeyedBy};
 ghost use Rattle.entry_changes.specs.dir_entry.Adding.{Refuses};
 ghost use Rattle.entry_updates.specs.Finishing.{kept, named, dropped, renamed};
 
+use crate::checking::{keep, settle, with_superclasses};
 use entry_changes::{Entry, EntryError, Schema, TypeAndValue, add_rdn, delete_rdn, holds_rdn};
-use entry_classes::{keep, settle, with_superclasses};
 use std::alloc::Global;
 
 /// The entry at the end of a modify (RFC 4511 4.6), with its superclasses: 67 where a value of its relative name is gone, then 19,

@@ -1,4 +1,0 @@
-pub mod Shown
-pub mod Named
-pub mod Completed
-pub mod Chained

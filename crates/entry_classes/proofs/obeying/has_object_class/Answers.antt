@@ -1,7 +1,0 @@
-use Rattle.std.proofs.Common.{sym, ◌∙◌}
-use Rattle.entry_classes.proofs.Shown.{classed_shown}
-use Rattle.entry_classes.proofs.obeying.has_object_class.Goals as goal
-
-pub returns : goal.returns
-returns c = c.has_type.ensures ∙ sym (classed_shown c.args.schema.now _ c.args.attributes.now
-    c.object_class_type.ensures.called)
