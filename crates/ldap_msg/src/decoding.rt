@@ -15,8 +15,8 @@ ghost use Rattle.ldap_msg.specs.Limits.{OperationHasFilterAt, ContentHasFilterAt
 use crate::decoding_request::{is_request, request_of};
 use crate::decoding_response::response_of;
 use crate::message::{Message, ProtocolOp};
-use ldap_requests::{MsgFault, element, field, number_field};
 use ldap_parts::{Control, controls_of};
+use ldap_requests::{MsgFault, element, field, number_field};
 use std::alloc::Global;
 
 /// How many octets a message may have, its header included.

@@ -9,10 +9,10 @@ ghost use Rattle.ldap_msg.specs.Grammar.{request_octet, response_octet, IsReques
 ghost use Rattle.ldap_msg.specs.Limits.{IsRequestWithin};
 
 use crate::message::Request;
+use ldap_parts::{add_of, delete_of, modify_dn_of, modify_of};
 use ldap_requests::{
     MsgFault, abandon_of, bind_of, compare_of, extended_request_of, search_of, unbind_of,
 };
-use ldap_parts::{add_of, delete_of, modify_dn_of, modify_of};
 use std::alloc::Global;
 
 /// Whether an operation of this first octet is a request, if it is any.

@@ -7,8 +7,8 @@ ghost use Rattle.ldap_msg.specs.View.{response_view};
 ghost use Rattle.ldap_msg.specs.Grammar.{response_octet, IsResponseContent};
 
 use crate::message::Response;
-use ldap_requests::MsgFault;
 use ldap_parts::{entry_of, extended_of, result_of};
+use ldap_requests::MsgFault;
 use std::alloc::Global;
 
 /// The response of this first octet whose content this is.

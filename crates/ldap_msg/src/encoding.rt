@@ -13,8 +13,11 @@ ghost use Rattle.ldap_msg.specs.private.Written.{enveloped};
 use crate::encoding_request::{request_content, request_octet};
 use crate::encoding_response::{response_content, response_octet};
 use crate::message::{Message, ProtocolOp, Response};
+use ldap_parts::{
+    AttributeParts, SearchResultEntry, add_lengths, element_length, entry_length, number_length,
+    put_controls, put_entry, write_head,
+};
 use ldap_requests::{WriteError, put_number};
-use ldap_parts::{AttributeParts, SearchResultEntry, add_lengths, element_length, entry_length, number_length, put_entry, write_head, put_controls};
 use std::alloc::Global;
 
 /// The greatest length that a message's content may have.

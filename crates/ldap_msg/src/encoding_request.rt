@@ -6,11 +6,11 @@ ghost use Rattle.ldap_msg.specs.Grammar.{request_octet};
 ghost use Rattle.ldap_msg.specs.Written.{request_content};
 
 use crate::message::Request;
+use ldap_parts::{add_content, delete_content, modify_content, modify_dn_content};
 use ldap_requests::{
     WriteError, abandon_content, bind_content, compare_content, extended_request_content,
     search_content,
 };
-use ldap_parts::{add_content, delete_content, modify_content, modify_dn_content};
 use std::alloc::Global;
 
 /// The content of a request.

@@ -6,8 +6,8 @@ ghost use Rattle.ldap_msg.specs.Grammar.{response_octet};
 ghost use Rattle.ldap_msg.specs.Written.{response_content};
 
 use crate::message::Response;
-use ldap_requests::WriteError;
 use ldap_parts::{entry_content, extended_content, result_content};
+use ldap_requests::WriteError;
 use std::alloc::Global;
 
 /// The content of a response.

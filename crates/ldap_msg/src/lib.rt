@@ -18,10 +18,14 @@ mod message;
 
 pub use decoding::{MAX_MESSAGE, decode, one_message};
 pub use encoding::{encode, is_message, put_search_entry};
+pub use ldap_parts::{
+    AddRequest, Attribute, AttributeParts, Change, Control, ExtendedResponse, LdapResult,
+    ModifyDnRequest, ModifyOperation, ModifyRequest, PartialAttribute, ResultCode,
+    SearchResultEntry, add_lengths, element_length, write_head,
+};
 pub use ldap_requests::{
     AttributeValueAssertion, AuthenticationChoice, BerFault, BindRequest, CompareRequest,
     DerefAliases, ExtendedRequest, Filter, MsgFault, SaslCredentials, Scope, SearchRequest,
     WriteError as EncodeError, header, write,
 };
-pub use ldap_parts::{AttributeParts, ExtendedResponse, SearchResultEntry, add_lengths, element_length, write_head, AddRequest, Attribute, Change, Control, LdapResult, ModifyDnRequest, ModifyOperation, ModifyRequest, PartialAttribute, ResultCode};
 pub use message::{Message, ProtocolOp, Request, Response};

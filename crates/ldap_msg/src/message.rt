@@ -1,7 +1,10 @@
 //! The envelope and its operations.
 
+use ldap_parts::{
+    AddRequest, Control, ExtendedResponse, LdapResult, ModifyDnRequest, ModifyRequest,
+    SearchResultEntry,
+};
 use ldap_requests::{BindRequest, CompareRequest, ExtendedRequest, SearchRequest};
-use ldap_parts::{ExtendedResponse, SearchResultEntry, AddRequest, Control, LdapResult, ModifyDnRequest, ModifyRequest};
 
 /// LDAPMessage (RFC 4511 4.1.1).
 #[derive(Debug, Drop)]

@@ -12,8 +12,8 @@ ghost use Rattle.ldap_parts.specs.UpdateGrammar.{IsAttribute, HasAttribute, IsAd
 
 use crate::add::AddRequest;
 use crate::attribute::Attribute;
-use ldap_ber::{MsgFault, elements, field, text_field};
 use crate::decoding_attribute::attribute_of;
+use ldap_ber::{MsgFault, elements, field, text_field};
 use std::alloc::Global;
 
 /// The attribute whose content this is; E8 where it has no value.

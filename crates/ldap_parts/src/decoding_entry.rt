@@ -6,9 +6,9 @@ ghost use Rattle.ldap_parts.specs.ResponseValues.{SearchResultEntryValue};
 ghost use Rattle.ldap_parts.specs.ResponseView.{entry_view};
 ghost use Rattle.ldap_parts.specs.ResponseGrammar.{IsSearchResultEntry};
 
+use crate::decoding_attribute::attributes_field;
 use crate::entry::SearchResultEntry;
 use ldap_ber::{MsgFault, elements, text_field};
-use crate::decoding_attribute::attributes_field;
 use std::alloc::Global;
 
 /// The entry whose content this is.

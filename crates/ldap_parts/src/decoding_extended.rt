@@ -6,9 +6,9 @@ ghost use Rattle.ldap_parts.specs.ResponseValues.{ExtendedResponseValue};
 ghost use Rattle.ldap_parts.specs.ResponseView.{extended_view};
 ghost use Rattle.ldap_parts.specs.ResponseGrammar.{IsExtendedResponse};
 
+use crate::decoding_result::result_field;
 use crate::extended::ExtendedResponse;
 use ldap_ber::{MsgFault, elements, optional_octets, optional_text};
-use crate::decoding_result::result_field;
 use std::alloc::Global;
 
 /// The extended response whose content this is.

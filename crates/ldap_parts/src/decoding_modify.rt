@@ -8,9 +8,9 @@ ghost use Rattle.ldap_parts.specs.UpdateValues.{ChangeValue, ModifyRequestValue}
 ghost use Rattle.ldap_parts.specs.UpdateView.{change_view, modify_view};
 ghost use Rattle.ldap_parts.specs.UpdateGrammar.{modify_number, IsChange, HasChange, IsModifyRequest};
 
+use crate::decoding_attribute::attribute_field;
 use crate::modify::{Change, ModifyOperation, ModifyRequest};
 use ldap_ber::{MsgFault, elements, field, number_field, text_field};
-use crate::decoding_attribute::attribute_field;
 use std::alloc::Global;
 
 /// What a change does, of a number.

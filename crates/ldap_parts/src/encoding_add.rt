@@ -5,8 +5,8 @@ ghost use Rattle.ldap_parts.specs.UpdateView.{add_view};
 ghost use Rattle.ldap_parts.specs.UpdatesWritten.{add_content};
 
 use crate::add::AddRequest;
-use ldap_ber::{WriteError, write};
 use crate::encoding_attribute::put_attributes;
+use ldap_ber::{WriteError, write};
 use std::alloc::Global;
 
 /// The content of an add.

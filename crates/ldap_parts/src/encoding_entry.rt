@@ -4,10 +4,10 @@ ghost use Rattle.std.specs.Prelude.{◌≡◌, ◌^◌, ◌≤◌, ◌++◌, dro
 ghost use Rattle.ldap_parts.specs.ResponseView.{entry_view};
 ghost use Rattle.ldap_parts.specs.ResponsesWritten.{entry_content};
 
-use crate::entry::SearchResultEntry;
 use crate::attribute::AttributeParts;
-use ldap_ber::{WriteError, add_lengths, element_length, write};
 use crate::encoding_attribute::{attributes_length, put_attribute_list};
+use crate::entry::SearchResultEntry;
+use ldap_ber::{WriteError, add_lengths, element_length, write};
 use std::alloc::Global;
 
 /// How many octets the content of an entry of this name with these attributes takes; 2^32 where there are more.

@@ -4,9 +4,9 @@ ghost use Rattle.std.specs.Prelude.{◌≡◌, ◌^◌, ◌≤◌, length, IfOk,
 ghost use Rattle.ldap_parts.specs.ResponseView.{extended_view};
 ghost use Rattle.ldap_parts.specs.ResponsesWritten.{extended_content};
 
+use crate::encoding_result::result_content;
 use crate::extended::ExtendedResponse;
 use ldap_ber::{WriteError, put_optional_octets, put_optional_text};
-use crate::encoding_result::result_content;
 use std::alloc::Global;
 
 /// The content of an extended response.

@@ -6,9 +6,9 @@ ghost use Rattle.ldap_parts.specs.UpdateView.{change_view, modify_view};
 ghost use Rattle.ldap_parts.specs.UpdateGrammar.{modify_number};
 ghost use Rattle.ldap_parts.specs.UpdatesWritten.{change_content, change_bytes, modify_content};
 
+use crate::encoding_attribute::attribute_content;
 use crate::modify::{Change, ModifyOperation, ModifyRequest};
 use ldap_ber::{WriteError, put_number, write};
-use crate::encoding_attribute::attribute_content;
 use std::alloc::Global;
 
 /// The number of what a change does.

@@ -52,7 +52,9 @@ pub use decoding_modify::modify_of;
 pub use decoding_name::{delete_of, modify_dn_of};
 pub use decoding_result::{result_field, result_of};
 pub use encoding_add::add_content;
-pub use encoding_attribute::{attribute_content, attributes_length, put_attribute_list, put_attributes};
+pub use encoding_attribute::{
+    attribute_content, attributes_length, put_attribute_list, put_attributes,
+};
 pub use encoding_control::put_controls;
 pub use encoding_entry::{entry_content, entry_length, put_entry};
 pub use encoding_extended::extended_content;
@@ -61,7 +63,11 @@ pub use encoding_name::{delete_content, modify_dn_content};
 pub use encoding_result::result_content;
 pub use entry::SearchResultEntry;
 pub use extended::ExtendedResponse;
-pub use ldap_ber::{MsgFault, WriteError, add_lengths, copied, element, element_length, elements, field, flag_field, number_field, number_length, optional_octets, optional_text, put_flag, put_number, put_optional_octets, put_optional_text, text, text_field, write, write_head};
+pub use ldap_ber::{
+    MsgFault, WriteError, add_lengths, copied, element, element_length, elements, field,
+    flag_field, number_field, number_length, optional_octets, optional_text, put_flag, put_number,
+    put_optional_octets, put_optional_text, text, text_field, write, write_head,
+};
 pub use modify::{Change, ModifyOperation, ModifyRequest};
 pub use modify_dn::ModifyDnRequest;
 pub use result::{LdapResult, ResultCode};
