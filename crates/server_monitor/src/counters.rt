@@ -1,6 +1,6 @@
 //! Counts of what a server answers, for monitors. All of its threads count, and none takes a lock for it.
 use crate::seconds::Seconds;
-use session_memory::Budget;
+use session_turns::Budget;
 use status_page::{ClientCounts, Counts, Histograms, Labelled, PeerCounts, ProcessCounts};
 use std::alloc::{AllocError, Global};
 use std::sync::atomic::{AtomicU64, Ordering};

@@ -21,8 +21,8 @@ use Rattle.client_link.proofs.Config.TheSendSync as config
 use Rattle.client_link.proofs.Door.TheSendSync as door
 use Rattle.session_turns.proofs.Book.TheSendSync as book
 use Rattle.session_turns.proofs.Turns.TheSendSync as turns
-use Rattle.session_memory.proofs.Budget.TheSendSync as budget
-use Rattle.session_memory.proofs.Holders.TheSendSync as holders
+use Rattle.session_turns.proofs.Budget.TheSendSync as budget
+use Rattle.session_turns.proofs.Holders.TheSendSync as holders
 use Rattle.session_turns.proofs.Lead.TheSendSync as lead
 use Rattle.session_pool.proofs.pool.Watch.TheSendSync as watch
 use Rattle.session_pool.specs.contracts.pooled.PooledSession as PooledSession

@@ -28,7 +28,7 @@
 //!   socket from when the update lines up to its answer. It tells the thread when the client has left, and no thread makes the
 //!   update of a client that left before its turn. One that has lined up for too long a seat answers by 52 (`NoNode`).
 //! - *Memory.* What a session holds is posted in a `Budget` that all share when its thread lays it down, and before a large
-//!   message is decoded (`memory`). Where all hold too much, the session that `session_memory` says is ended.
+//!   message is decoded (`memory`). Where all hold too much, the session that `session_turns` says is ended.
 //! - *Refused binds.* After three of them a bind waits for a second, at its place in the table and in no thread.
 //! - *No room.* When the table is full, or descriptors are used up, a session that is over goes, else the longest silent one (`arriving`).
 //!
@@ -69,5 +69,5 @@ pub use limit::descriptors;
 pub use no_reads::NoReads;
 pub use pool::{PoolSettings, SessionPool};
 pub use running::serve_sessions;
-pub use session_memory::{Budget, limit_of};
+pub use session_turns::{Budget, limit_of};
 pub use tells::{Away, SessionObserver, Traffic};

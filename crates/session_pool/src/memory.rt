@@ -1,5 +1,5 @@
 //! What sessions hold of the memory that they may take together: it is posted where a thread lays a session down, and given back at its end. Whose
-//! session is ended where there is too little is decided in `session_memory`.
+//! session is ended where there is too little is decided in `session_turns`.
 ghost use Rattle.client_link.specs.session_handler.View.{config_view};
 ghost use Rattle.client_link.specs.Served.{config_of};
 ghost use Rattle.session_pool.specs.Attending.{talk, IsSame};
@@ -10,7 +10,7 @@ use crate::pool::SessionPool;
 use crate::pooled::{MakesRoom, Notice, PooledSession};
 use crate::tells::SessionObserver;
 use client_link::{Config, SessionEnd};
-use session_memory::Holder;
+use session_turns::Holder;
 use std::sync::Wait;
 use std::time::Clock;
 

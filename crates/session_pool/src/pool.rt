@@ -2,7 +2,7 @@
 use crate::table::Table;
 use client_link::{Config, Door};
 use mio::{Events, Poll, Registry, Token, Waker};
-use session_memory::Budget;
+use session_turns::Budget;
 use std::alloc::Global;
 use std::io;
 use std::net::Net;

@@ -2,8 +2,7 @@
 //! turn it is.
 use crate::places::Places;
 use crate::updaters::Updaters;
-use session_memory::Holders;
-use session_turns::Lead;
+use session_turns::{Holders, Lead};
 use std::alloc::{AllocError, Global};
 
 /// The sessions of a pool.

@@ -2,3 +2,4 @@ pub mod Owed
 pub mod Standing
 pub mod Taken
 pub mod Watched
+pub mod Sums

@@ -4,4 +4,7 @@ pub mod Places
 pub mod Queued
 pub mod Resting
 pub mod Turning
+pub mod Holding
+pub mod Limit
+pub mod Posted
 pub mod private

@@ -2,3 +2,4 @@
 -- need not read it.
 pub mod Listed
 pub mod Queued
+pub mod Below

@@ -1,5 +1,5 @@
-use Rattle.session_memory.specs.private.Below.{IsMostBelow}
-use Rattle.session_memory.proofs.holders.Holders.rather.Given as goal
+use Rattle.session_turns.specs.private.Below.{IsMostBelow}
+use Rattle.session_turns.proofs.holders.Holders.rather.Given as goal
 
 -- the first of those so far
 abbrev pub invariant-loop-place : goal.invariant-loop-place

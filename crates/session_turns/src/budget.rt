@@ -1,6 +1,6 @@
 //! The memory that clients may take together, and what they have taken: a sum that all threads share.
 ghost use Rattle.std.specs.Prelude.{◌≡◌, ◌↔◌, ◌*◌, ◌<◌, IsTrue};
-ghost use Rattle.session_memory.specs.Limit.{limit_of};
+ghost use Rattle.session_turns.specs.Limit.{limit_of};
 
 use crate::posting::{BudgetChange, change_to};
 use std::sync::atomic::{AtomicU64, Ordering};

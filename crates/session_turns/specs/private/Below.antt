@@ -1,7 +1,7 @@
 -- Whose session is ended, of those at the first places. A list and a count of places come in.
 use Rattle.std.specs.Prelude.{◌≡◌, ◌≤◌, ◌<◌, ℕ, List, Option, None, Some}
-use Rattle.session_memory.specs.declared.holders.Holder.{Holder}
-use Rattle.session_memory.specs.Holding.{HoldsAt, rank}
+use Rattle.session_turns.specs.declared.holders.Holder.{Holder}
+use Rattle.session_turns.specs.Holding.{HoldsAt, rank}
 
 -- the session at a place ranks so, above this, and holds 4 KiB at least
 pub record IsAbove (holders : List (Option Holder)) (p least rank_at : ℕ) : Type 0 where

@@ -1,8 +1,8 @@
 -- The sum stays what is posted of all, whatever sessions come to hold.
 use Rattle.std.proofs.Common.{◌≡◌, ◌≤◌, ◌<◌, ℕ, zero, suc, ◌+◌, ◌-◌, List, [], ◌∷◌, Bool, true, false, cond, nat_lt, length, refl, arith, sym, ap, ◌∙◌}
 use Rattle.std.proofs.lemmas.Bool.Decides.{nat_tests}
-use Rattle.session_memory.specs.declared.posting.BudgetChange.TheVariants.{Stays, Adds, Gives}
-use Rattle.session_memory.specs.Posted.{changed, change, all, at, with, Sum, Event, after, after_all, AreWithin, nothing, at_first, UsedIsPosted}
+use Rattle.session_turns.specs.declared.posting.BudgetChange.TheVariants.{Stays, Adds, Gives}
+use Rattle.session_turns.specs.Posted.{changed, change, all, at, with, Sum, Event, after, after_all, AreWithin, nothing, at_first, UsedIsPosted}
 
 with_length : (ns : List ℕ) (p held : ℕ) → length (with ns p held) ≡ length ns
 with_length [] p held = refl

@@ -1,7 +1,7 @@
 -- The sum of what sessions hold. What is posted of each comes in, with what one comes to hold; the sum comes out.
 use Rattle.std.specs.Prelude.{◌≡◌, ◌<◌, ℕ, zero, suc, ◌+◌, ◌-◌, List, [], ◌∷◌, cond, nat_lt, length}
-use Rattle.session_memory.specs.declared.posting.BudgetChange.{BudgetChange}
-use Rattle.session_memory.specs.declared.posting.BudgetChange.TheVariants.{Stays, Adds, Gives}
+use Rattle.session_turns.specs.declared.posting.BudgetChange.{BudgetChange}
+use Rattle.session_turns.specs.declared.posting.BudgetChange.TheVariants.{Stays, Adds, Gives}
 
 -- a number after a change
 abbrev pub changed : ℕ → BudgetChange → ℕ

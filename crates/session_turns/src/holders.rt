@@ -1,7 +1,7 @@
 //! Keeps what the sessions at their places hold, and says whose is to be ended. One thread at a time.
 ghost use Rattle.std.specs.Prelude.{◌≡◌, ◌≤◌, ◌↔◌, IsTrue, List, Option, None, IfOk, IfSome, IfNone, replicate, slice_set};
-ghost use Rattle.session_memory.specs.Holding.{rank, kept, IsRather, NoneRather, HoldsAt};
-ghost use Rattle.session_memory.specs.private.Below.{IsAbove};
+ghost use Rattle.session_turns.specs.Holding.{rank, kept, IsRather, NoneRather, HoldsAt};
+ghost use Rattle.session_turns.specs.private.Below.{IsAbove};
 
 use std::alloc::{AllocError, Global};
 use std::marker::Model;
@@ -28,8 +28,8 @@ pub struct Holders {
 
 impl Model for Holders {
     ghost use Rattle.std.specs.Prelude.{List, Option};
-    ghost use Rattle.session_memory.specs.declared.holders.Holder.{Holder};
-    ghost use Rattle.session_memory.specs.Holding.{AllHoldEnough};
+    ghost use Rattle.session_turns.specs.declared.holders.Holder.{Holder};
+    ghost use Rattle.session_turns.specs.Holding.{AllHoldEnough};
 
     ghost Value = { List (Option Holder) };
 

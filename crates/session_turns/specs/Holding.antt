@@ -1,7 +1,7 @@
 -- What sessions at their places hold. A list by place comes in, with a session that wants more; whose session is ended
 -- comes out.
 use Rattle.std.specs.Prelude.{◌≡◌, ◌≤◌, ◌<◌, ◌+◌, ℕ, List, Option, None, Some, cond, nat_lt, slice_get}
-use Rattle.session_memory.specs.declared.holders.Holder.{Holder}
+use Rattle.session_turns.specs.declared.holders.Holder.{Holder}
 
 -- how early a session is ended: an anonymous one before a bound one, and of alike ones the one that holds more
 abbrev pub rank : Holder → ℕ

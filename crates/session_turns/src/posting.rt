@@ -1,7 +1,7 @@
 //! By how much the sum of what sessions hold changes where one of them holds more or less than is posted.
 ghost use Rattle.std.specs.Prelude.{◌≡◌, ◌↔◌};
-ghost use Rattle.session_memory.specs.Posted.{change, changed, UsedIsPosted};
-ghost use Rattle.session_memory.specs.declared.posting.BudgetChange.{BudgetChange};
+ghost use Rattle.session_turns.specs.Posted.{change, changed, UsedIsPosted};
+ghost use Rattle.session_turns.specs.declared.posting.BudgetChange.{BudgetChange};
 
 /// What becomes of a sum.
 #[derive(Clone, Copy, Debug, PartialEq, Eq)]

@@ -1,4 +1,0 @@
-pub mod Holding
-pub mod Limit
-pub mod Posted
-pub mod private

@@ -1,0 +1,5 @@
+use Rattle.session_turns.proofs.Sums.{law}
+use Rattle.session_turns.proofs.posting.used_is_posted.Goals as goal
+
+pub returns : goal.returns
+returns c = law
