@@ -4,12 +4,11 @@ ghost use Rattle.ldap_filter.specs.View.{view as filter_view};
 ghost use Rattle.ldap_eval.specs.Value.{filter_value};
 ghost use Rattle.search_plans.specs.Runs.{is_true};
 ghost use Rattle.indexed_tree.specs.directory_api.ldap_msg.View.{attribute_view, search_view};
-ghost use Rattle.indexed_tree.specs.directory_api.found_entry.View.{found_view};
+ghost use Rattle.indexed_tree.specs.directory_api.FoundView.{found_view};
 ghost use Rattle.indexed_tree.specs.dir_entry.Entry.{attributes_of, IsKeyedBy};
 ghost use Rattle.dir_search.specs.Answer.{dse_matching};
-ghost use Rattle.dir_search.specs.private.View.{selectors_of};
+ghost use Rattle.dir_search.specs.private.View.{selectors_of, Finds};
 ghost use Rattle.dir_search.specs.RootDse.{class_top, dse_attributes, dse_selected, where_named, without_values};
-ghost use Rattle.dir_search.specs.private.View.{Finds};
 
 use crate::searching::matches;
 use crate::selecting::{Showing, shows_for};

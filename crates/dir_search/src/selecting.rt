@@ -4,7 +4,7 @@ ghost use Rattle.std.specs.Arc.{arc_value};
 ghost use Rattle.indexed_tree.specs.ldap_dn.Printed.{printed_name};
 ghost use Rattle.indexed_tree.specs.dir_entry.Entry.{attributes_of};
 ghost use Rattle.indexed_tree.specs.dir_tree.Directory.{entry_at};
-ghost use Rattle.indexed_tree.specs.directory_api.found_entry.View.{found_view};
+ghost use Rattle.indexed_tree.specs.directory_api.FoundView.{found_view};
 ghost use Rattle.dir_search.specs.Numbered.{name_of};
 ghost use Rattle.dir_search.specs.Selection.{attributes_selected};
 ghost use Rattle.dir_search.specs.private.View.{selectors_of, shows_of};

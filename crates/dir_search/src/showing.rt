@@ -2,7 +2,7 @@
 ghost use Rattle.std.specs.Prelude.{◌≡◌, ◌<◌, ◌++◌, ◌∷◌, [], map, IfOk, OnOk};
 ghost use Rattle.std.specs.Bool.{OnTrue, OnFalse};
 ghost use Rattle.std.specs.Arc.{arc_value};
-ghost use Rattle.indexed_tree.specs.directory_api.found_entry.View.{found_view};
+ghost use Rattle.indexed_tree.specs.directory_api.FoundView.{found_view};
 ghost use Rattle.indexed_tree.specs.Stored.{named};
 ghost use Rattle.dir_search.specs.private.Looks.{AreHere};
 ghost use Rattle.dir_search.specs.private.Numbered.{entries_of};

@@ -1,6 +1,6 @@
 -- What a directory answers, as values: RFC 4511 4.1.9 and 4.5.2.
 use Rattle.std.specs.Prelude.{ℕ, List, []}
-use Rattle.found_entry.specs.ldap_msg.Messages.{SearchResultEntryValue}
+use Rattle.ldap_msg.specs.Messages.{SearchResultEntryValue}
 
 -- a result code, and matchedDN
 pub record ReplyModel : Type 0 where

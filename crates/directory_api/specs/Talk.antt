@@ -1,6 +1,6 @@
 -- What is asked of a directory and what it answers, in turn.
 use Rattle.std.specs.Prelude.{ℕ, List, [], ◌∷◌, Result, Ok, Err}
-use Rattle.found_entry.specs.ldap_msg.Messages.{SearchRequestValue, CompareRequestValue}
+use Rattle.ldap_msg.specs.Messages.{SearchRequestValue, CompareRequestValue}
 use Rattle.ldap_op.specs.Values.{OpValue}
 use Rattle.directory_api.specs.Answers.{ReplyModel, Answer}
 use Rattle.ldap_op.specs.log_entry.declared.words.Client.{Client}

@@ -1,6 +1,6 @@
 -- What replies, answers, roles and ends of updates in memory stand for.
 use Rattle.std.specs.Prelude.{map, string_bytes}
-use Rattle.found_entry.specs.View.{found_view}
+use Rattle.directory_api.specs.FoundView.{found_view}
 use Rattle.directory_api.specs.Answers.{ReplyModel, Answer}
 use Rattle.directory_api.specs.declared.reply.Reply.{Reply}
 use Rattle.directory_api.specs.declared.search_answer.SearchAnswer.{SearchAnswer}

@@ -1,16 +1,15 @@
 // A directory, as a session asks it: what is read of it and what is updated in it, one question at a time.
 ghost use Rattle.std.specs.Prelude.{Result};
-ghost use Rattle.found_entry.specs.ldap_msg.View.{search_view, compare_view};
+ghost use Rattle.ldap_msg.specs.View.{search_view, compare_view};
 ghost use Rattle.ldap_op.specs.View.{update_view};
-ghost use Rattle.directory_api.specs.View.{answer_view, reply_view};
+ghost use Rattle.directory_api.specs.View.{answer_view, reply_view, role_view, ended_view};
 ghost use Rattle.directory_api.specs.Talk.{Exchange, asked_role, learned, searched, compared, looked, updated};
-ghost use Rattle.directory_api.specs.View.{role_view, ended_view};
 
 use crate::gate::{Ended, Role};
 use crate::outcomes::{Found, LookError};
 use crate::reply::Reply;
 use crate::search_answer::SearchAnswer;
-use found_entry::{CompareRequest, SearchRequest};
+use ldap_msg::{CompareRequest, SearchRequest};
 use ldap_op::{Client, Update};
 use std::alloc::Global;
 

@@ -1,13 +1,13 @@
 // Reads of a directory, as a session asks for them. A trait.
 ghost use Rattle.std.specs.Prelude.{Result};
-ghost use Rattle.found_entry.specs.ldap_msg.View.{search_view, compare_view};
+ghost use Rattle.ldap_msg.specs.View.{search_view, compare_view};
 ghost use Rattle.directory_api.specs.View.{answer_view, reply_view};
 ghost use Rattle.directory_api.specs.Talk.{Exchange, learned, searched, compared, looked};
 
 use crate::outcomes::{Found, LookError};
 use crate::reply::Reply;
 use crate::search_answer::SearchAnswer;
-use found_entry::{CompareRequest, SearchRequest};
+use ldap_msg::{CompareRequest, SearchRequest};
 use std::alloc::Global;
 
 /// A directory that is read. Each read names the number of an update, and is answered from a state no older.

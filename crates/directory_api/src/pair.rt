@@ -8,7 +8,7 @@ use crate::look::Look;
 use crate::outcomes::{Found, LookError};
 use crate::reply::Reply;
 use crate::search_answer::SearchAnswer;
-use found_entry::{CompareRequest, SearchRequest};
+use ldap_msg::{CompareRequest, SearchRequest};
 use ldap_op::{Client, Update};
 use std::alloc::Global;
 

@@ -3,7 +3,7 @@ ghost use Rattle.std.specs.Prelude.{◌≡◌, IfOk};
 ghost use Rattle.directory_api.specs.Answers.{only as only_code};
 ghost use Rattle.directory_api.specs.View.{reply_view};
 
-use found_entry::ResultCode;
+use ldap_msg::ResultCode;
 use std::alloc::{AllocError, Global};
 
 /// What an update or a compare is answered with (RFC 4511 4.1.9).

@@ -1,5 +1,6 @@
 //! The answer to a search. Plain data.
-use found_entry::{FoundEntry, ResultCode};
+use crate::found::FoundEntry;
+use ldap_msg::ResultCode;
 
 /// What a search finds.
 #[derive(Drop)]

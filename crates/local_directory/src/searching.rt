@@ -3,7 +3,7 @@
 ghost use Rattle.std.specs.Prelude.{◌≡◌, Ok, IfOk, IfErr, OnOk, length, map};
 ghost use Rattle.ldif.specs.Reading.{records_of as records_of_text};
 ghost use Rattle.dir_store.specs.directory_api.ldap_msg.View.{entry_view, search_view};
-ghost use Rattle.dir_store.specs.directory_api.found_entry.View.{found_view};
+ghost use Rattle.dir_store.specs.directory_api.FoundView.{found_view};
 ghost use Rattle.dir_store.specs.indexed_tree.Stored.{NumbersBelow};
 ghost use Rattle.dir_search.specs.Answer.{answer as answer_of};
 ghost use Rattle.dir_search.specs.Counted.{IsCountOf};

@@ -1,12 +1,11 @@
 -- The responses of a search, one after the other. Octets are not read here.
 use Rattle.std.proofs.Common.{◌≡◌, ◌+◌, ◌-◌, ◌<◌, ◌≤◌, ◌^◌, inl, inr, arith, ℕ, List, [], ◌∷◌, ◌++◌, append_assoc, drop, get_or, map, length, sym, ap, ◌∙◌, subst, Result, Ok, Err}
 use Rattle.std.specs.Prelude.{IfOk, IsErrOf}
-use Rattle.request_checks.specs.ldap_msg.Messages.{MessageValue}
+use Rattle.request_checks.specs.ldap_msg.Messages.{MessageValue, search_entry}
 use Rattle.request_checks.specs.ldap_msg.Written.{message_bytes, message_content}
 use Rattle.std.proofs.lemmas.List.{drop_more, length-append, map-append}
-use Rattle.request_checks.specs.ldap_msg.Messages.{search_entry}
-use Rattle.directory_api.specs.found_entry.View.{found_view}
-use Rattle.directory_api.specs.found_entry.declared.found.FoundEntry.{FoundEntry}
+use Rattle.directory_api.specs.FoundView.{found_view}
+use Rattle.directory_api.specs.declared.found.FoundEntry.{FoundEntry}
 use Rattle.request_checks.specs.Messages.{message, entry_messages, HasTooLong}
 use Rattle.session_handler.specs.Rows.{cut, total}
 use Rattle.session_handler.specs.Taken.{AreSaid}

@@ -4,7 +4,7 @@ ghost use Rattle.request_checks.specs.ldap_msg.View.{response_view, result_view}
 ghost use Rattle.request_checks.specs.ldap_msg.Written.{message_bytes, message_content};
 ghost use Rattle.request_checks.specs.ldap_msg.Messages.{search_entry};
 ghost use Rattle.request_checks.specs.Messages.{message, number_told, entry_messages, HasTooLong};
-ghost use Rattle.directory_api.specs.found_entry.View.{found_view};
+ghost use Rattle.directory_api.specs.FoundView.{found_view};
 ghost use Rattle.request_checks.specs.Requests.{response_to};
 ghost use Rattle.directory_api.specs.View.{reply_view, answer_view};
 ghost use Rattle.directory_api.specs.Talk.{looked};

@@ -5,7 +5,7 @@ use Rattle.indexed_tree.specs.ldap_schema.Schema.{SchemaModel}
 use Rattle.ldap_eval.specs.declared.bound.BoundFilter.{BoundFilter}
 use Rattle.indexed_tree.specs.directory_api.ldap_msg.Messages.{SearchRequestValue, SearchResultEntryValue}
 use Rattle.indexed_tree.specs.directory_api.ldap_msg.ldap_requests.declared.search.SearchRequest.{SearchRequest}
-use Rattle.indexed_tree.specs.directory_api.found_entry.Selection.{ShowsModel}
+use Rattle.indexed_tree.specs.directory_api.Selection.{ShowsModel}
 use Rattle.indexed_tree.specs.index_choice.declared.kinds.Kinds.{Kinds}
 use Rattle.indexed_tree.specs.dir_tree.Directory.{Entered}
 use Rattle.indexed_tree.specs.Directory.{NamedEntry}

@@ -1,4 +1,4 @@
-use Rattle.lab_script.specs.dir_lab.dir_search.directory_api.found_entry.View.{found_view}
+use Rattle.lab_script.specs.dir_lab.dir_search.directory_api.FoundView.{found_view}
 use Rattle.dird_commands.specs.private.Replies.{entry_line}
 use Rattle.dird_commands.proofs.Replying.{answer_done}
 use Rattle.dird_commands.proofs.replies.write_answer.Goals as goal

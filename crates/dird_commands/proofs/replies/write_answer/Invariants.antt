@@ -1,6 +1,6 @@
 use Rattle.std.proofs.Common.{◌++◌, flat_map, length, map, take}
 use Rattle.std.specs.Io.KnownBytes.{Appends}
-use Rattle.lab_script.specs.dir_lab.dir_search.directory_api.found_entry.View.{found_view}
+use Rattle.lab_script.specs.dir_lab.dir_search.directory_api.FoundView.{found_view}
 use Rattle.dird_commands.specs.private.Replies.{entry_line}
 use Rattle.dird_commands.proofs.replies.write_answer.Given as goal
 

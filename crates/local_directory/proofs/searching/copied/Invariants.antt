@@ -1,6 +1,6 @@
 use Rattle.std.proofs.Common.{◌≡◌, map, take}
 use Rattle.dir_store.specs.directory_api.ldap_msg.View.{entry_view}
-use Rattle.dir_store.specs.directory_api.found_entry.View.{found_view}
+use Rattle.dir_store.specs.directory_api.FoundView.{found_view}
 use Rattle.local_directory.proofs.searching.copied.Given as goal
 
 -- copies of those so far

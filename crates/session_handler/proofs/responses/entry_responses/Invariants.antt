@@ -1,5 +1,5 @@
 use Rattle.std.proofs.Common.{◌≡◌, ◌++◌, drop, length, map}
-use Rattle.directory_api.specs.found_entry.View.{found_view}
+use Rattle.directory_api.specs.FoundView.{found_view}
 use Rattle.request_checks.specs.ldap_msg.Written.{message_bytes}
 use Rattle.request_checks.specs.Messages.{entry_messages, HasTooLong}
 use Rattle.session_handler.specs.Rows.{cut, total}

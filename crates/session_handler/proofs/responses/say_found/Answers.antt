@@ -2,7 +2,7 @@ use Rattle.std.proofs.Common.{ap, map, Err}
 use Rattle.std.proofs.lemmas.Result.{err_from_is_err_and}
 use Rattle.request_checks.specs.ldap_msg.Messages.{ResponseValue}
 use Rattle.request_checks.specs.ldap_msg.View.{response_view}
-use Rattle.directory_api.specs.found_entry.View.{found_view}
+use Rattle.directory_api.specs.FoundView.{found_view}
 use Rattle.request_checks.specs.Messages.{message, number_told, entry_messages}
 use Rattle.session_handler.specs.declared.answered.Next.TheVariants.{GoesOn}
 use Rattle.session_handler.proofs.EntryLists.{said_error, too_long_front, said_last}

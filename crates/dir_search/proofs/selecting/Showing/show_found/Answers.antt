@@ -1,9 +1,9 @@
 use Rattle.std.proofs.Common.{◌∙◌, refl, sym, ap, subst, List, ℕ, length, map, string_bytes}
 use Rattle.std.proofs.lemmas.List.{length-map}
 use Rattle.indexed_tree.specs.directory_api.ldap_msg.Messages.{SearchResultEntryValue}
-use Rattle.indexed_tree.specs.directory_api.found_entry.View.{found_view}
+use Rattle.indexed_tree.specs.directory_api.FoundView.{found_view}
 use Rattle.indexed_tree.specs.Directory.{NamedEntry}
-use Rattle.indexed_tree.specs.directory_api.found_entry.declared.found.FoundEntry.{FoundEntry}
+use Rattle.indexed_tree.specs.directory_api.declared.found.FoundEntry.{FoundEntry}
 use Rattle.dir_search.specs.Selection.{selected}
 use Rattle.dir_search.proofs.Limits.{SoFar, begins, shows}
 use Rattle.dir_search.proofs.Shown.{cut_short, all_shown}

@@ -1,5 +1,5 @@
 use Rattle.std.proofs.Common.{◌≡◌, length, map, string_bytes}
-use Rattle.indexed_tree.specs.directory_api.found_entry.View.{found_view}
+use Rattle.indexed_tree.specs.directory_api.FoundView.{found_view}
 use Rattle.dir_search.specs.Selection.{selected}
 use Rattle.dir_search.proofs.Limits.{SoFar}
 use Rattle.dir_search.proofs.selecting.Showing.show_found.Given as goal
