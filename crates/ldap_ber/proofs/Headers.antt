@@ -12,7 +12,7 @@ use Rattle.ldap_ber.specs.private.Reading.{length_at, Gives}
 use Rattle.ldap_ber.specs.Header.{IsHeader, IsHeaderFront, IsHeaderFault}
 use Rattle.ldap_ber.specs.private.Header.{beside, header_at}
 use Rattle.ldap_ber.proofs.Lengths.{TakesLength, LengthFault, none, few, no_end, many, length_reads, length_again, is_long}
-use Rattle.ldap_ber.proofs.Elements.{octets-zeros, second}
+use Rattle.ldap_ber.proofs.ElementLemmas.{octets-zeros, second}
 
 -- a first octet, a length and a count of octets
 abbrev pub Heading : Type 0

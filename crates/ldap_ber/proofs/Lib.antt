@@ -1,6 +1,6 @@
 pub mod Numbers
 pub mod Lengths
-pub mod Elements
+pub mod ElementLemmas
 pub mod Headers
 pub mod ValueLemmas
 pub mod Written

@@ -5,7 +5,7 @@ use Rattle.std.specs.Str.{IsUtf8}
 use Rattle.std.proofs.lemmas.List.{append_cancel_left, length-append}
 use Rattle.ldap_ber.specs.Element.{IsElement}
 use Rattle.ldap_ber.specs.Values.{IsValue, IsInteger, IsBoolean}
-use Rattle.ldap_ber.proofs.Elements.{one}
+use Rattle.ldap_ber.proofs.ElementLemmas.{one}
 use Rattle.ldap_ber.specs.Fields.{HasField, Seq, HasText, HasNumber, HasInteger, HasFlag, BeginsOtherwise, Optional, HasTextOrNone, HasOctetsOrNone, HasFlagOrFalse}
 use Rattle.ldap_ber.specs.Faults.{IsPlainFault}
 use Rattle.ldap_ber.specs.declared.message_fault.MsgFault.{MsgFault}

@@ -4,7 +4,7 @@ use Rattle.std.proofs.lemmas.List.{append-nil, drop_at, length-append, length-ta
 use Rattle.std.proofs.Math.Seq.{take-append-add}
 use Rattle.ldap_msg.specs.ldap_ber.Element.{IsElement, IsLength}
 use Rattle.ldap_msg.specs.Messages.{MessageValue}
-use Rattle.ldap_msg.proofs.ldap_ber.Elements.{second}
+use Rattle.ldap_msg.proofs.ldap_ber.ElementLemmas.{second}
 use Rattle.ldap_msg.specs.ldap_ber.Header.{IsHeader, IsHeaderFront}
 use Rattle.ldap_msg.specs.ldap_ber.Reading.{IsFault as IsBerFault}
 use Rattle.ldap_msg.specs.ldap_ber.declared.fault.BerFault.{BerFault}

@@ -6,7 +6,7 @@ use Rattle.ldap_msg.specs.ldap_ber.Element.{IsElement, IsLength}
 use Rattle.ldap_msg.specs.ldap_ber.Header.{IsHeader}
 use Rattle.ldap_msg.specs.ldap_ber.private.Reading.{length_at}
 use Rattle.ldap_msg.specs.ldap_ber.declared.fault.BerFault.{BerFault}
-use Rattle.ldap_msg.proofs.ldap_ber.Elements.{one}
+use Rattle.ldap_msg.proofs.ldap_ber.ElementLemmas.{one}
 use Rattle.ldap_msg.proofs.ldap_ber.Lengths.{length_again}
 use Rattle.ldap_msg.specs.ldap_ber.declared.message_fault.MsgFault.{MsgFault}
 use Rattle.ldap_msg.specs.ldap_ber.declared.message_fault.MsgFault.TheVariants.{TooLarge, NotAMessage, TooDeep, TooManyItems, NoMemory}

@@ -2,7 +2,7 @@
 use Rattle.std.proofs.Common.{ap, arith}
 use Rattle.std.proofs.lemmas.Result.{IfOk-weaker}
 use Rattle.ldap_ber.proofs.Numbers.{octets_from}
-use Rattle.ldap_ber.proofs.Elements.{IsOkAnd-weaker}
+use Rattle.ldap_ber.proofs.ElementLemmas.{IsOkAnd-weaker}
 use Rattle.ldap_ber.proofs.Headers.{Heading, found, only, exact}
 use Rattle.ldap_ber.proofs.heading.header.Goals as goal
 

@@ -2,7 +2,7 @@
 use Rattle.std.proofs.Common.{ap, arith}
 use Rattle.std.proofs.lemmas.Result.{IfOk-weaker}
 use Rattle.ldap_ber.proofs.Numbers.{octets_from}
-use Rattle.ldap_ber.proofs.Elements.{Read, found, only, exact, IsOkAnd-weaker}
+use Rattle.ldap_ber.proofs.ElementLemmas.{Read, found, only, exact, IsOkAnd-weaker}
 use Rattle.ldap_ber.proofs.reading.read.Goals as goal
 
 pub returns-clause-found : goal.returns-clause-found
