@@ -1,2 +1,5 @@
 pub mod Forgetting
 pub mod Taken
+pub mod Passing
+pub mod Remembering
+pub mod Spelling

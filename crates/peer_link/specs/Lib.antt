@@ -1,3 +1,10 @@
 pub mod Waiting
 pub mod Reading
+pub mod Claims
+pub mod Greeting
+pub mod Meeting
+pub mod Past
+pub mod Refusals
+pub mod Saying
+pub mod Terms
 pub mod private

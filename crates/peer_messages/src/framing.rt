@@ -2,10 +2,9 @@
 //! notes leaves out what that replica has said that it has committed.
 use crate::parts::PeerParts;
 use crate::telling::{tell_lost, tell_refused_by, tell_silent};
-use peer_link::{Bytes, Framing, REFUSAL};
-use replica_greeting::{
-    Claim, Cluster, FrameSizes, Frames, Op, PeerMessage, WireError, earlier_greeting, greeting,
-    read_refusal,
+use peer_link::{
+    Bytes, Claim, Cluster, FrameSizes, Frames, Framing, Op, PeerMessage, REFUSAL, WireError,
+    earlier_greeting, greeting, read_refusal,
 };
 use std::alloc::{AllocError, Global};
 use std::sync::Wait;

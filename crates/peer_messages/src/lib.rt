@@ -20,15 +20,13 @@ pub use framing::MessageFrames;
 pub use links::{Forgetful, Links};
 pub use parts::PeerParts;
 pub use peer_link::{
-    Address, FrameEnd, LinkTimes, Outbox, SocketDialer, read_head, read_more, read_rest, send_all,
+    Address, Came, Claim, Cluster, Forgotten, FrameEnd, Gathering, HEADING, Heading, LinkTimes,
+    Met, Op, Outbox, PeerMessage, SocketDialer, Term, Terms, WireError, greeting_heading, heading,
+    meet, read_head, read_more, read_rest, refusal_octets, rest, send_all,
 };
 pub use progress::PeerProgress;
 pub use reaching::TellingDialer;
 pub use replica_clock::Lack;
-pub use replica_greeting::{
-    Came, Claim, Cluster, Forgotten, Gathering, HEADING, Heading, Met, Op, PeerMessage, Term,
-    Terms, WireError, greeting_heading, heading, meet, refusal_octets, rest,
-};
 pub use server_log::Reporter;
 pub use server_monitor::Counters;
 pub use telling::text_of_forgotten;

@@ -1,6 +1,6 @@
 //! Which replicas are heard on how many connections, and why one isn't: so that each change is told, and told once; and
 //! what each has said, so that a start of it that remembers less isn't heard.
-use replica_greeting::{Claim, Forgotten, Op, Past, PeerMessage, Term};
+use peer_link::{Claim, Forgotten, Op, Past, PeerMessage, Term};
 use server_monitor::Labelled;
 use std::alloc::{AllocError, Global};
 use std::sync::{Mutex, Wait};

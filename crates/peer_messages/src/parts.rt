@@ -1,8 +1,7 @@
 //! What a server's threads share of its links to the other replicas. Plain references.
 use crate::links::Links;
 use crate::progress::PeerProgress;
-use peer_link::Outbox;
-use replica_greeting::{Op, PeerMessage, Terms};
+use peer_link::{Op, Outbox, PeerMessage, Terms};
 use server_log::Reporter;
 use server_monitor::Counters;
 use std::sync::atomic::AtomicBool;

@@ -1,6 +1,6 @@
 //! Puts messages to other replicas into the queues of their receivers.
 use crate::parts::PeerParts;
-use replica_greeting::{Op, PeerMessage};
+use peer_link::{Op, PeerMessage};
 use std::sync::Wait;
 
 /// What a message weighs without its records: about the memory that it takes.

@@ -1,6 +1,6 @@
 //! Keeps how far other replicas are, as they have said, and what of long messages they have taken.
+use peer_link::PeerMessage;
 use replica_clock::Repeats;
-use replica_greeting::PeerMessage;
 use std::alloc::{AllocError, Global};
 use std::sync::atomic::{AtomicU64, Ordering};
 use std::sync::{Mutex, Wait};

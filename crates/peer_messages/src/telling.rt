@@ -1,6 +1,5 @@
 //! What a server says of what it sends to other replicas, a line an event.
-use peer_link::Address;
-use replica_greeting::{Claim, Forgotten, WireError};
+use peer_link::{Address, Claim, Forgotten, WireError};
 use server_log::Reporter;
 use std::alloc::{AllocError, Global};
 use std::io::ErrorKind;

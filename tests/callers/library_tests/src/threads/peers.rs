@@ -6,7 +6,7 @@ use crate::threads::signal::Signal;
 use client_link::Limits;
 use hex::decode;
 use ldap_session::{Config, Name};
-use replica_greeting::{Claim, Terms, greeting};
+use peer_link::{Claim, Terms, greeting};
 use schema_reader::built_in_schema;
 use server_threads::{
     Address, Build, Choices, Engine, Figures, LinkTimes, Logs, MessageHandler, ReplicaAddresses, ProcessFiles, Role,

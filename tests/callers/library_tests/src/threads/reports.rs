@@ -2,8 +2,7 @@
 
 use crate::threads::signal::Signal;
 use ldap_op::Update;
-use peer_link::Framing;
-use replica_greeting::{Claim, Met, Term, Terms, meet};
+use peer_link::{Claim, Framing, Met, Term, Terms, meet};
 use server_threads::{
     Address, Choices, Limits, LinkTimes, Logs, MessageFrames, Note, NoteWriter, ReplicaAddresses, ProcessFiles, Reporter,
     ServerError, SharedParts, make_shared_parts,

@@ -2,7 +2,7 @@
 
 use crate::threads::reports::{parts_under, terms_under};
 use ldap_op::Update;
-use peer_link::Framing;
+use peer_link::{Claim, Framing};
 use server_threads::{MessageFrames, SharedParts};
 use std::alloc::{AllocError, Global};
 use std::test::*;
@@ -10,7 +10,6 @@ use vr_short::{fill, note};
 use vr_state::log::Log;
 use vr_state::message::Snapshot;
 use vr_state::words::{Client, LogEntry};
-use replica_greeting::Claim;
 use vr_state::message::Response;
 use vr_wire::{Came, Cluster, Gathering, Op, PeerMessage};
 

@@ -1,3 +1,0 @@
-pub mod Passing
-pub mod Remembering
-pub mod Spelling

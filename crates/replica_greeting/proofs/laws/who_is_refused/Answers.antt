@@ -1,8 +1,0 @@
-use Rattle.replica_greeting.proofs.Remembering.{forward_is_taken, refusals_have_cause}
-use Rattle.replica_greeting.proofs.laws.who_is_refused.Goals as goal
-
-pub returns-clause-forward : goal.returns-clause-forward
-returns-clause-forward c = forward_is_taken
-
-pub returns-clause-cause : goal.returns-clause-cause
-returns-clause-cause c = refusals_have_cause
