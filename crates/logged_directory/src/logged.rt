@@ -7,8 +7,7 @@ use directory_api::{
     Client, CompareRequest, Directory, Ended, Found, LookError, Reply, Role, SearchAnswer,
     SearchRequest, Update,
 };
-use server_log::{Logs, Reporter};
-use server_monitor::Counters;
+use server_monitor::{Counters, Logs, Reporter};
 use std::alloc::{AllocError, Global};
 use std::marker::Model;
 use std::sync::Wait;

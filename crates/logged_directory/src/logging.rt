@@ -1,7 +1,7 @@
 //! What is logged of updates and of slow searches, a line an event.
 use directory_api::{Client, Ended, SearchRequest, Update};
 use filter_text::print_text;
-use server_log::{Reporter, one_line};
+use server_monitor::{Reporter, one_line};
 use std::alloc::{AllocError, Global};
 use std::sync::Wait;
 use text_faults::code_word;

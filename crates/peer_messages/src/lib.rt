@@ -27,7 +27,6 @@ pub use peer_link::{
 pub use progress::PeerProgress;
 pub use reaching::TellingDialer;
 pub use replica_clock::Lack;
-pub use server_log::Reporter;
-pub use server_monitor::Counters;
+pub use server_monitor::{Counters, Reporter};
 pub use telling::text_of_forgotten;
 pub use vr_short::{NOTE_REST, note_number, note_sender};

@@ -2,8 +2,7 @@
 use crate::links::Links;
 use crate::progress::PeerProgress;
 use peer_link::{Op, Outbox, PeerMessage, Terms};
-use server_log::Reporter;
-use server_monitor::Counters;
+use server_monitor::{Counters, Reporter};
 use std::sync::atomic::AtomicBool;
 
 /// What a server's threads share of its links to the other replicas.

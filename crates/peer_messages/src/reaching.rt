@@ -1,7 +1,7 @@
 //! Dials another replica, and says where it can't be reached, and where it is again: once for each change.
 use crate::telling::{tell_reached, tell_unreached};
 use peer_link::{Address, Dial, SocketDialer, StreamState};
-use server_log::Reporter;
+use server_monitor::Reporter;
 use std::alloc::Global;
 use std::net::{Net, TcpStream};
 use std::sync::Wait;

@@ -1,6 +1,6 @@
 //! What a server says of what it sends to other replicas, a line an event.
 use peer_link::{Address, Claim, Forgotten, WireError};
-use server_log::Reporter;
+use server_monitor::Reporter;
 use std::alloc::{AllocError, Global};
 use std::io::ErrorKind;
 use std::sync::Wait;

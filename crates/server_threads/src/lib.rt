@@ -5,7 +5,7 @@
 //! The threads of a server, which know the node by a trait alone (`engine`). `shared_parts` has what they share;
 //! `serving` begins and ends them. Those that exchange messages with other replicas are in `peer_threads`, those
 //! that serve sessions in `session_pool`. `server_monitor` answers monitors with the pages of `pages`. One more
-//! thread writes what is said (`server_log`). `session_events` and `telling` have the lines of sessions.
+//! thread writes what is said (`server_monitor`). `session_events` and `telling` have the lines of sessions.
 //! `starting` answers monitors and writes lines while the node is opened. Directories are wrapped by
 //! `logged_directory`. The node's clock has the thread that calls.
 //!
@@ -28,10 +28,9 @@ pub use peer_threads::{
     Address, Claim, Counters, Lack, LinkTimes, MessageFrames, MessageHandler, NeededThreads,
     ReplicaAddresses, Reporter, Terms,
 };
-pub use server_log::{Lines, Logs, Note, NoteWriter, StandardError, takes_a_line};
 pub use server_monitor::{
-    Build, Figures, GROUP_MEMORY, MACHINE_MEMORY, ProcessFiles, Role, Start, StartProgress,
-    Trouble, available_octets,
+    Build, Figures, GROUP_MEMORY, Lines, Logs, MACHINE_MEMORY, Note, NoteWriter, ProcessFiles,
+    Role, StandardError, Start, StartProgress, Trouble, available_octets, takes_a_line,
 };
 pub use serving::Server;
 pub use session_pool::{Config, Limits, NoReads, limit_of};

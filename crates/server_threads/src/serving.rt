@@ -9,8 +9,7 @@ use crate::shared_parts::{SharedParts, listen};
 use crate::telling::{tell_fault, tell_room};
 use logged_directory::Logged;
 use peer_threads::{Claim, Cluster, PeerThreads, ReplicaAddresses};
-use server_log::StandardError;
-use server_monitor::Monitoring;
+use server_monitor::{Monitoring, StandardError};
 use session_pool::{
     Config, Directory, Door, PoolSettings, SessionPool, close, descriptors, serve_sessions,
 };

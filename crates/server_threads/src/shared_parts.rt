@@ -5,8 +5,7 @@ use peer_threads::{
     Address, Counters, LinkTimes, Links, NeededThreads, Op, Outbox, PeerMessage, PeerParts,
     PeerProgress, ReplicaAddresses, Reporter, Terms,
 };
-use server_log::Logs;
-use server_monitor::{ProcessFiles, StartProgress};
+use server_monitor::{Logs, ProcessFiles, StartProgress};
 use session_pool::{Budget, Door, HasDoor, Limits};
 use std::alloc::{AllocError, Global};
 use std::net::{Net, SocketAddr, TcpListener, TcpStream};

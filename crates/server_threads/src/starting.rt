@@ -2,8 +2,7 @@
 use crate::engine::Monitored;
 use crate::pages::ServerPages;
 use crate::shared_parts::SharedParts;
-use server_log::StandardError;
-use server_monitor::{Build, Figures, Monitoring, Role, Start, Trouble};
+use server_monitor::{Build, Figures, Monitoring, Role, StandardError, Start, Trouble};
 use std::alloc::Global;
 use std::collections::VecDeque;
 use std::io::Eprint;

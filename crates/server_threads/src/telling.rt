@@ -1,6 +1,6 @@
 //! What a server says of its sessions and of its end, a line an event.
 use crate::fault::ServerError;
-use server_log::{Reporter, one_line};
+use server_monitor::{Reporter, one_line};
 use session_pool::{Away, SessionEnd};
 use std::alloc::{AllocError, Global};
 use std::net::SocketAddr;

@@ -1,7 +1,7 @@
 -- Notes that stand for lines.
 use Rattle.std.proofs.Common.{◌≡◌, ℕ, zero, suc, ◌<◌, ◌≤◌, List, [], ◌∷◌, ◌++◌, length, refl, sym, ap, ◌∙◌, subst, append-nil, append_assoc, length-append, arith}
 use Rattle.std.proofs.lemmas.List.Elements.{All-push}
-use Rattle.server_log.specs.Lines.{LinesValue, EndsWith, NoteValue, line, dropped, StandsFor, StandFor, HasDropped, first, further, HasSaid, again, kept, no_place, one_more, perhaps_dropped}
+use Rattle.server_monitor.specs.Lines.{LinesValue, EndsWith, NoteValue, line, dropped, StandsFor, StandFor, HasDropped, first, further, HasSaid, again, kept, no_place, one_more, perhaps_dropped}
 
 -- the last note stands for one line more
 pub last_more : (before : List NoteValue) (n m : NoteValue) (said : List (List ℕ)) (text : List ℕ)

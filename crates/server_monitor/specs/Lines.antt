@@ -1,7 +1,7 @@
 -- Lines that are said and the notes that stand for them until they are written.
 use Rattle.std.specs.Prelude.{◌≡◌, ℕ, ◌+◌, ◌<◌, ◌≤◌, min, List, [], ◌∷◌, ◌++◌, length, All, string_bytes, cond, ◌==◌}
-use Rattle.server_log.specs.declared.notes.Note.{Note}
-use Rattle.server_log.specs.declared.notes.Note.TheVariants.{Line, Dropped}
+use Rattle.server_monitor.specs.declared.notes.Note.{Note}
+use Rattle.server_monitor.specs.declared.notes.Note.TheVariants.{Line, Dropped}
 
 -- a note: a text that was said so many times in a row, or so many lines that were dropped
 pub data NoteValue : Type 0 where

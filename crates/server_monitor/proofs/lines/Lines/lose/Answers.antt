@@ -1,6 +1,6 @@
 use Rattle.std.proofs.Common.{ap}
-use Rattle.server_log.proofs.Noting.{lost_one}
-use Rattle.server_log.proofs.lines.Lines.lose.Goals as goal
+use Rattle.server_monitor.proofs.Noting.{lost_one}
+use Rattle.server_monitor.proofs.lines.Lines.lose.Goals as goal
 
 pub returns-clause-dropped : goal.returns-clause-dropped
 returns-clause-dropped c =

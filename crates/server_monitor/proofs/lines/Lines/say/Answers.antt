@@ -1,5 +1,5 @@
-use Rattle.server_log.proofs.Noting.{said_again, said_kept, said_dropped}
-use Rattle.server_log.proofs.lines.Lines.say.Goals as goal
+use Rattle.server_monitor.proofs.Noting.{said_again, said_kept, said_dropped}
+use Rattle.server_monitor.proofs.lines.Lines.say.Goals as goal
 
 pub returns-then-count_again-clause-said : goal.returns-then-count_again-clause-said
 returns-then-count_again-clause-said c =

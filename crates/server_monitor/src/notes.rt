@@ -1,6 +1,6 @@
 //! What is written on standard error: notes, each of which stands for lines that were said.
 ghost use Rattle.std.specs.Prelude.{◌≡◌, ℕ, IsTrue, IsFalse};
-ghost use Rattle.server_log.specs.Lines.{note_of, line, one_more, IsLineOf};
+ghost use Rattle.server_monitor.specs.Lines.{note_of, line, one_more, IsLineOf};
 
 use std::fmt::{self, Display, Formatter, Write};
 

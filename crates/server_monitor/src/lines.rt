@@ -1,7 +1,7 @@
 //! Lines that wait to be written. They come in at the back, equal ones in a row as one note, and leave as notes at the
 //! front.
 ghost use Rattle.std.specs.Prelude.{◌≡◌, ◌↔◌, ◌<◌, ◌≤◌, ℕ, List, ◌∷◌, ◌++◌, [], length, IfSome, IfNone, IfOk, IsTrue, IsFalse, string_bytes};
-ghost use Rattle.server_log.specs.Lines.{HasSaid, HasDropped, EndsWith, NoteValue, note_of, line, one_more};
+ghost use Rattle.server_monitor.specs.Lines.{HasSaid, HasDropped, EndsWith, NoteValue, note_of, line, one_more};
 
 use crate::notes::Note;
 use std::alloc::{AllocError, Global};
@@ -34,7 +34,7 @@ impl Drop for Lines {
 impl Model for Lines {
     ghost use Rattle.std.specs.Prelude.{◌≤◌, ◌++◌, length, map};
     ghost use Rattle.std.specs.VecDeque.{deque_capacity};
-    ghost use Rattle.server_log.specs.Lines.{LinesValue, note_of, perhaps_dropped};
+    ghost use Rattle.server_monitor.specs.Lines.{LinesValue, note_of, perhaps_dropped};
 
     ghost Value = { LinesValue };
 

@@ -1,5 +1,0 @@
-use Rattle.server_log.proofs.Noting.{counted_all}
-use Rattle.server_log.proofs.laws.none_uncounted.Goals as goal
-
-pub returns : goal.returns
-returns c = counted_all

@@ -1,0 +1,5 @@
+use Rattle.server_monitor.proofs.Noting.{counted_all}
+use Rattle.server_monitor.proofs.laws.none_uncounted.Goals as goal
+
+pub returns : goal.returns
+returns c = counted_all
