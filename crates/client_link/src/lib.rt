@@ -12,8 +12,7 @@
 //! is its connection's, that each is served once, that a thread runs.
 //!
 //! Proved: each directory comes back after the sessions that it served, one after the other, and nothing else
-//! (`serve_all`, `served_along`). No more places are given up than are waited for (`Seats`). A client has the limit
-//! once more for each MiB that it has taken (`stretch`).
+//! (`serve_all`, `served_along`). No more places are given up than are waited for (`Seats`).
 #![tactic(auto)]
 
 mod accepting;
@@ -23,7 +22,6 @@ mod gauge;
 mod headings;
 mod laws;
 mod limits;
-mod patience;
 mod peer;
 mod pieces;
 mod seats;
@@ -40,7 +38,6 @@ pub use ldap_session::{
     Reply, Role, SearchAnswer, SearchRequest, SessionEnd, Step, Update,
 };
 pub use limits::Limits;
-pub use patience::stretch;
 pub use peer::{PeerConnection, PeerStream};
 pub use pieces::PieceReader;
 pub use serving::serve_all;

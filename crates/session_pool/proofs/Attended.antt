@@ -1,14 +1,14 @@
 -- Messages of one session that one directory answers, one after the other. What was answered so far comes in, with one
 -- more.
-use Rattle.std.proofs.Common.{◌≡◌, ℕ, zero, suc, ◌+◌, ◌≤◌, [], drop, Bool, true, false, refl, sym, ap, subst, ◌∙◌, arith}
+use Rattle.std.proofs.Common.{◌≡◌, ℕ, suc, ◌+◌, ◌≤◌, Bool, true, false, sym, subst, ◌∙◌, arith}
 use Rattle.std.specs.Bool.{OnTrue, OnFalse}
 use Rattle.client_link.specs.directory_api.Talk.{Exchange}
 use Rattle.client_link.specs.session_handler.Session.{ConfigValue}
 use Rattle.client_link.specs.ldap_session.View.{ConversationValue}
-use Rattle.session_pool.specs.Attending.{talk, IsSame, HasSent, AnswersNext, AnswersInTurn, AnswersSome}
-use Rattle.session_pool.specs.private.Attending.{HasToWrite}
-use Rattle.session_pool.specs.Attending as turns
-use Rattle.session_pool.specs.declared.pooled.PooledSession.{PooledSession}
+use Rattle.session_table.specs.Attending.{IsSame}
+use Rattle.session_pool.specs.Answering.{AnswersNext, AnswersInTurn, AnswersSome}
+use Rattle.session_pool.specs.Answering as turns
+use Rattle.session_table.specs.declared.pooled.PooledSession.{PooledSession}
 
 module _ {D T : Type 0} (allows : D → Exchange T → D → Type 0) (c : ConfigValue) where
   pub answers_none : (v : ConversationValue) (d : D) → AnswersSome allows c v v d d 0
@@ -46,17 +46,3 @@ on_true false e h = cc
 
 pub same_then : (g h k : PooledSession) → IsSame g h → IsSame h k → IsSame g k
 same_then g h k a b = record { place = b.place ∙ a.place; number = b.number ∙ a.number; debt = b.debt ∙ a.debt }
-
-drop_none : (n : ℕ) → drop {A = ℕ} n [] ≡ []
-drop_none zero = refl
-drop_none (suc n) = refl
-
--- where nothing was unsent, nothing is left unsent
-pub none_left : (v w : ConversationValue) → HasSent v w → v.unsent ≡ [] → w.unsent ≡ []
-none_left v w sent none = ap (λ (x : ConversationValue). x.unsent) sent.sent ∙ ap (drop sent.count) none
-    ∙ drop_none sent.count
-
--- what has something to write after a write had before
-pub had_to_write : (g h : PooledSession) → HasSent (talk g) (talk h) → h.is_stuck ≡ g.is_stuck → HasToWrite h →
-    HasToWrite g
-had_to_write g h sent same write none = sym same ∙ write (none_left (talk g) (talk h) sent none)

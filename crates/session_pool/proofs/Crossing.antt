@@ -1,59 +1,22 @@
--- What the threads of a pool share may cross threads. A pool holds sessions, these hold parsed messages, and those hold
--- filters, which are trees.
+-- What the threads of a pool share may cross threads.
 use denote.RattleType.{RattleType}
 use denote.Ref.{NamedLft}
 use denote.Struct.Declared
-use denote.Param.Send.{IsSend, IsSync, sendable, struct_sync, recorded_sync}
+use denote.Param.Send.{IsSync, sendable, struct_sync, recorded_sync}
 use Rattle.std.proofs.Crossing.{crosses}
-use Rattle.std.proofs.net.tcp.TcpStream.TheSendSync as stream
 use Rattle.std.proofs.sync.Condvar.TheSendSync as condvar
 use Rattle.std.proofs.sync.Mutex.TheSendSync as mutex
 use Rattle.std.proofs.sync.atomic.AtomicBool.TheSendSync as flag
 use Rattle.std.proofs.sync.atomic.AtomicUsize.TheSendSync as count
-use Rattle.std.proofs.time.Duration.TheSendSync as duration
 use Rattle.std.proofs.time.Instant.TheSendSync as instant
 use Rattle.mio.proofs.poll.Registry.TheSendSync as registry
 use Rattle.mio.proofs.waker.Waker.TheSendSync as waker
-use Rattle.client_link.below.bytes.proofs.unique.BytesMut.TheSendSync as octets
-use Rattle.client_link.below.ldap_filter.proofs.tree.Filter.TheLaws.TheKnot as filter
-use Rattle.client_link.below.ldap_framer.specs.contracts.framer.Framer as Framer
 use Rattle.client_link.proofs.Config.TheSendSync as config
 use Rattle.client_link.proofs.Door.TheSendSync as door
-use Rattle.session_turns.proofs.Book.TheSendSync as book
-use Rattle.session_turns.proofs.Turns.TheSendSync as turns
 use Rattle.session_turns.proofs.Budget.TheSendSync as budget
-use Rattle.session_turns.proofs.Holders.TheSendSync as holders
-use Rattle.session_turns.proofs.Lead.TheSendSync as lead
 use Rattle.session_pool.proofs.pool.Watch.TheSendSync as watch
-use Rattle.session_pool.specs.contracts.pooled.PooledSession as PooledSession
 use Rattle.session_pool.specs.contracts.pool.SessionPool as SessionPool
-use Rattle.session_pool.specs.contracts.table.Table as Table
-
-framer_send : IsSend Framer.the_field.row
-framer_send = search (octets.the_send, filter.crosses, crosses, sendable) depth 60 fits 20000
-
-session_send : IsSend PooledSession.the_row
-session_send = search (
-  framer_send,
-  octets.the_send,
-  stream.the_field_send,
-  instant.the_field_send,
-  duration.the_field_send,
-  crosses,
-  sendable,
-) depth 60 fits 20000
-
-table_send : IsSend Table.the_row
-table_send = search (
-  session_send,
-  book.the_send,
-  turns.the_send,
-  holders.the_send,
-  lead.the_send,
-  instant.the_send,
-  crosses,
-  sendable,
-) depth 60 fits 20000
+use Rattle.session_table.proofs.Crossing.{table_send}
 
 -- A pool is shared by its threads where its runtime and whoever is told of its sessions are.
 pub pool_sync : (a : NamedLft) (R T : RattleType) → IsSync R → IsSync T → IsSync (SessionPool.the_row a R T)

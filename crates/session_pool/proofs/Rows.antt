@@ -7,13 +7,13 @@ use Rattle.client_link.specs.ldap_session.View.{ConversationValue}
 use Rattle.client_link.specs.ldap_session.declared.due.Due.TheVariants.{Nothing as DueNothing}
 use Rattle.client_link.specs.ldap_session.declared.end.SessionEnd.{SessionEnd}
 use Rattle.client_link.specs.Served.{config_of}
-use Rattle.session_pool.specs.Attending.{talk, IsSame, IsAllSaid, IsHeardEnd, Becomes}
-use Rattle.session_pool.specs.private.Attending.{HasHeard}
+use Rattle.session_table.specs.Attending.{talk, IsSame, IsAllSaid, IsHeardEnd, Becomes}
+use Rattle.session_table.specs.Waiting.{HasHeard}
 use Rattle.session_pool.specs.Sittings.{Sitting, InARow, sits, sits_on, InARowUpTo, Attends}
-use Rattle.session_pool.specs.declared.pooled.PooledSession.{PooledSession}
-use Rattle.session_pool.specs.declared.pooled.ReadOutcome.TheVariants.{Octets, Nothing, Ends as HeardEnds}
-use Rattle.session_pool.specs.declared.pooled.Then.{Then}
-use Rattle.session_pool.specs.declared.pooled.Then.TheVariants.{Listens, Ends}
+use Rattle.session_table.specs.declared.pooled.PooledSession.{PooledSession}
+use Rattle.session_table.specs.declared.pooled.ReadOutcome.TheVariants.{Octets, Nothing, Ends as HeardEnds}
+use Rattle.session_table.specs.declared.pooled.Then.{Then}
+use Rattle.session_table.specs.declared.pooled.Then.TheVariants.{Listens, Ends}
 
 all_said : (g : PooledSession) (then : Then) → Becomes (talk g) then → then ≡ Listens → IsAllSaid (talk g) DueNothing
 all_said g then becomes is = subst (λ (t : Then). Becomes (talk g) t) is becomes

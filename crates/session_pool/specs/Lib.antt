@@ -1,5 +1,4 @@
-pub mod Attending
+pub mod Answering
 pub mod Sittings
 pub mod Refusing
 pub mod Refused
-pub mod private

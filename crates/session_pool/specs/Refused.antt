@@ -2,7 +2,7 @@
 -- comes in; that the message is answered as where no primary is known, or as one that found no memory, comes out.
 use Rattle.client_link.specs.session_handler.Session.{ConfigValue}
 use Rattle.client_link.specs.ldap_session.View.{ConversationValue}
-use Rattle.session_pool.specs.Attending.{Answers}
+use Rattle.session_pool.specs.Answering.{Answers}
 use Rattle.session_pool.specs.Refusing.{finds_out, has_no_memory}
 use Rattle.session_pool.specs.declared.no_node.NoNode.{NoNode}
 use Rattle.session_pool.specs.declared.no_room.NoRoom.{NoRoom}

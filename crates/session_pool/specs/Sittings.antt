@@ -6,9 +6,10 @@ use Rattle.client_link.specs.session_handler.Session.{ConfigValue}
 use Rattle.client_link.specs.ldap_session.View.{ConversationValue}
 use Rattle.client_link.specs.ldap_session.declared.due.Due.TheVariants.{Nothing as DueNothing}
 use Rattle.client_link.specs.Served.{config_of}
-use Rattle.session_pool.specs.Attending.{HearsSome, IsHeardEnd, HasSent, IsAllSaid, Becomes, Answers, AnswersSome}
-use Rattle.session_pool.specs.declared.pooled.Then.{Then}
-use Rattle.session_pool.specs.declared.pooled.Then.TheVariants.{Ends}
+use Rattle.session_table.specs.Attending.{HearsSome, IsHeardEnd, HasSent, IsAllSaid, Becomes}
+use Rattle.session_pool.specs.Answering.{Answers, AnswersSome}
+use Rattle.session_table.specs.declared.pooled.Then.{Then}
+use Rattle.session_table.specs.declared.pooled.Then.TheVariants.{Ends}
 
 -- One sitting: at most 16 messages are answered, none of which is an update, and a front of what is unsent is sent.
 pub record Sitting {D T : Type 0} (allows : D → Exchange T → D → Type 0) (c : ConfigValue) (v w : ConversationValue)

@@ -1,8 +1,8 @@
 //! Connections taken from a listener, and places found for them.
 use crate::pool::SessionPool;
-use crate::pooled::PooledSession;
 use crate::tells::{Away, SessionObserver};
 use libc::EMFILE;
+use session_table::PooledSession;
 use session_turns::Queue;
 use std::net::{SocketAddr, TcpListener, TcpStream};
 use std::sync::Wait;
@@ -26,15 +26,7 @@ fn is_want(error: &io::Error) -> bool {
 impl<'a, R: Wait + Clock, T: SessionObserver> SessionPool<'a, R, T> {
     /// The session that has waited longest of a queue, which waits no more.
     fn wake_longest(&self, queue: Queue) -> Option<PooledSession> {
-        let mut table = self.table.lock(self.rt);
-        match table.places.longest(queue) {
-            Some(pooled) => {
-                let place = pooled.place;
-                table.holders.take(place);
-                table.places.wake(place)
-            }
-            None => None,
-        }
+        self.table.lock(self.rt).take_longest(queue)
     }
 
     /// Lets a session go: one that is over, else the one that was silent for longest.
@@ -46,7 +38,7 @@ impl<'a, R: Wait + Clock, T: SessionObserver> SessionPool<'a, R, T> {
         let Some(pooled) = self.wake_longest(Queue::Silent) else {
             return false;
         };
-        let number = pooled.number;
+        let number = pooled.number();
         self.close(pooled);
         self.teller.let_go(number, why);
         true
@@ -54,9 +46,9 @@ impl<'a, R: Wait + Clock, T: SessionObserver> SessionPool<'a, R, T> {
 
     /// A place for a session that comes.
     fn place(&self) -> Option<usize> {
-        let place = self.table.lock(self.rt).places.claim().ok();
+        let place = self.table.lock(self.rt).claim().ok();
         if place.is_none() && self.evict(Away::Longest) {
-            return self.table.lock(self.rt).places.claim().ok();
+            return self.table.lock(self.rt).claim().ok();
         }
         place
     }
@@ -73,7 +65,7 @@ impl<'a, R: Wait + Clock, T: SessionObserver> SessionPool<'a, R, T> {
                 self.teller.came(number, address);
                 self.park(pooled, Queue::Silent);
             }
-            Err(_) => self.table.lock(self.rt).places.free(place),
+            Err(_) => self.table.lock(self.rt).free(place),
         }
         Ok(())
     }

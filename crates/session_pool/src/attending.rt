@@ -3,14 +3,15 @@ ghost use Rattle.std.specs.Prelude.{◌≡◌, ◌+◌, ◌-◌, min, false, Non
 ghost use Rattle.std.specs.Bool.{OnTrue, OnFalse};
 ghost use Rattle.client_link.specs.session_handler.View.{config_view};
 ghost use Rattle.client_link.specs.Served.{config_of};
-ghost use Rattle.session_pool.specs.Attending.{talk, IsSame, Becomes, AnswersNext, AnswersSome};
-ghost use Rattle.session_pool.specs.private.Attending.{HasHeard, IsDelayed};
+ghost use Rattle.session_table.specs.Attending.{talk, IsSame, Becomes};
+ghost use Rattle.session_pool.specs.Answering.{AnswersNext, AnswersSome};
+ghost use Rattle.session_table.specs.Waiting.{HasHeard, IsDelayed};
 ghost use Rattle.session_pool.specs.Sittings.{Sitting, Attends, HasAttendedSome};
 
 use crate::pool::SessionPool;
-use crate::pooled::{PooledSession, ReadOutcome, Then};
 use crate::tells::SessionObserver;
 use client_link::{Config, Directory, Due};
+use session_table::{Destination, PooledSession, ReadOutcome, Then, Turn, destination};
 use session_turns::{After, Queue, Seen, follows};
 use std::sync::Wait;
 use std::sync::atomic::Ordering;
@@ -130,10 +131,10 @@ impl<'a, R: Wait + Clock, T: SessionObserver> SessionPool<'a, R, T> {
         if stay.is_over || pooled.is_delayed() {
             return false;
         }
-        if pooled.conversation.due() != Due::Other || pooled.conversation.unsent().len() >= UNSENT {
+        if pooled.due() != Due::Other || pooled.unsent().len() >= UNSENT {
             return false;
         }
-        if pooled.conversation.is_search_next() && !self.relieve() {
+        if pooled.is_search_next() && !self.relieve() {
             return false;
         }
         self.answer_and_tell(pooled, config, directory);
@@ -153,7 +154,7 @@ impl<'a, R: Wait + Clock, T: SessionObserver> SessionPool<'a, R, T> {
             (talk pooled.new) directory.old directory.new 16 }
     {
         let config = Config {
-            session: pooled.number,
+            session: pooled.number(),
             ..self.config
         };
         for _count in 0..MESSAGES {
@@ -270,16 +271,11 @@ impl<'a, R: Wait + Clock, T: SessionObserver> SessionPool<'a, R, T> {
     /// Tells what has passed between a session and its client, and hands the session to where it belongs.
     pub fn dismiss(&self, mut pooled: PooledSession, then: Then) {
         self.teller.passed(pooled.take_traffic());
-        match then {
-            Then::Listens => {
-                let queue = pooled.queue();
-                self.park(pooled, queue);
-            }
-            Then::Updates => self.queue_update(pooled),
-            Then::Queues => self.queue(pooled),
-            Then::Delays => self.delay(pooled),
-            Then::Waits => self.park(pooled, Queue::Unsent),
-            Then::Ends(end) => self.finish(pooled, end),
+        match destination(&pooled, then) {
+            Destination::Parks(queue) => self.park(pooled, queue),
+            Destination::LinesUp(Turn::Seat) => self.queue(pooled),
+            Destination::LinesUp(Turn::Update) => self.queue_update(pooled),
+            Destination::Ends(end) => self.finish(pooled, end),
         }
     }
 
@@ -292,7 +288,7 @@ impl<'a, R: Wait + Clock, T: SessionObserver> SessionPool<'a, R, T> {
             let Some(mut pooled) = self.next() else {
                 return directory;
             };
-            pooled.is_quick = is_within(self.rt, pooled.since, SOON_PARKED);
+            pooled.is_quick = is_within(self.rt, pooled.since(), SOON_PARKED);
             let mut stay = Stay::new(self.micros());
             let then = self.attend(&mut pooled, &mut directory, &mut buffer, &mut stay);
             let now = self.micros();

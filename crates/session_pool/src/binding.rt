@@ -1,12 +1,13 @@
 //! Tells of binds that were answered.
 ghost use Rattle.std.specs.Prelude.{◌≡◌, ◌-◌, ◌<◌, length, Some, IfSome, IfNone, slice_get};
 ghost use Rattle.client_link.specs.session_handler.View.{config_view};
-ghost use Rattle.session_pool.specs.Attending.{talk, IsSame, Answers};
+ghost use Rattle.session_table.specs.Attending.{talk, IsSame};
+ghost use Rattle.session_pool.specs.Answering.{Answers};
 
 use crate::pool::SessionPool;
-use crate::pooled::PooledSession;
 use crate::tells::SessionObserver;
 use client_link::{Config, Directory, Step};
+use session_table::PooledSession;
 use std::alloc::{AllocError, Global};
 use std::sync::Wait;
 use std::time::Clock;
@@ -42,7 +43,7 @@ impl<'a, R: Wait + Clock, T: SessionObserver> SessionPool<'a, R, T> {
         name: Result<String, AllocError>,
     ) -> bool {
         let code = match step {
-            Step::Answered => code_at_end(pooled.conversation.unsent()),
+            Step::Answered => code_at_end(pooled.unsent()),
             Step::Awaits | Step::Ends(_) => None,
         };
         let Some(code) = code else {
@@ -53,8 +54,8 @@ impl<'a, R: Wait + Clock, T: SessionObserver> SessionPool<'a, R, T> {
             return false;
         }
         match name {
-            Ok(name) => self.teller.refused(pooled.number, Ok(name.as_str()), code),
-            Err(error) => self.teller.refused(pooled.number, Err(error), code),
+            Ok(name) => self.teller.refused(pooled.number(), Ok(name.as_str()), code),
+            Err(error) => self.teller.refused(pooled.number(), Err(error), code),
         }
         true
     }
@@ -69,8 +70,8 @@ impl<'a, R: Wait + Clock, T: SessionObserver> SessionPool<'a, R, T> {
         ensures same { IsSame pooled.old pooled.new }
         ensures answers { Answers D.allows (config_view config.now) (talk pooled.old) (talk pooled.new) directory.old directory.new }
     {
-        let name = kept(self.alloc, pooled.conversation.bind_next());
-        let step = pooled.conversation.answer(self.alloc, config, directory);
+        let name = kept(self.alloc, pooled.bind_next());
+        let step = pooled.answer(self.alloc, config, directory);
         if let Some(name) = name {
             let is_refused = self.tell_bind(pooled, step, name);
             pooled.note_bind(is_refused);

@@ -1,17 +1,13 @@
 //! Seats that take turns: of those that are free one waits for all sessions that wait.
 use crate::leaving::FAREWELL;
-use crate::place_state::Turn;
 use crate::pool::{SessionPool, Watch};
-use crate::pooled::{Notice, PooledSession};
-use crate::table::Table;
 use crate::tells::SessionObserver;
-use crate::updaters::is_past;
 use client_link::SessionEnd;
 use mio::event::Event;
 use mio::unix::SourceFd;
 use mio::{Interest, Token};
+use session_table::{ClientState, Noted, PooledSession, Table, Turn, place_in, token_of};
 use session_turns::{Act, Call, Queue, Was};
-use std::os::fd::AsRawFd;
 use std::sync::Wait;
 use std::sync::atomic::Ordering;
 use std::time::{Clock, Duration, Instant};
@@ -33,17 +29,24 @@ fn part_of(limit: Duration) -> Duration {
         .max(Duration::from_millis(1))
 }
 
-/// How many bits of a socket's token are its session's place; those above are of its number.
-const PLACE_BITS: u32 = 32;
-
-/// What the poll tells a socket by: the place of its session, and the end of its number, since the place may be another session's by then.
-pub fn token_of(place: usize, number: u64) -> Token {
-    Token(place | (number as usize).wrapping_shl(PLACE_BITS))
+/// What the poll looks for at the socket of a session that waits in a queue; nothing, where no socket ends its wait.
+fn interest_in(queue: Queue) -> Option<Interest> {
+    match queue {
+        Queue::Unsent => Some(Interest::WRITABLE),
+        Queue::Silent | Queue::Inside | Queue::Leaving => Some(Interest::READABLE),
+        Queue::Delayed => None,
+    }
 }
 
-/// The place in a token.
-fn place_in(token: Token) -> usize {
-    token.0 & 0xffff_ffff
+/// What an event says of a client whose update waits, if anything.
+fn state_told(event: &Event) -> Option<ClientState> {
+    if event.is_error() || event.is_write_closed() {
+        Some(ClientState::Gone)
+    } else if event.is_read_closed() {
+        Some(ClientState::SendsNoMore)
+    } else {
+        None
+    }
 }
 
 impl<'a, R: Wait + Clock, T: SessionObserver> SessionPool<'a, R, T> {
@@ -60,36 +63,36 @@ impl<'a, R: Wait + Clock, T: SessionObserver> SessionPool<'a, R, T> {
         if !self.admits(&mut pooled) {
             return self.end_for_memory(pooled);
         }
-        let interest = if queue == Queue::Unsent {
-            Interest::WRITABLE
-        } else {
-            Interest::READABLE
-        };
-        let (place, fd) = (pooled.place, pooled.stream.as_raw_fd());
-        let refused = self.put_at_place(pooled, queue, place, fd, interest);
-        if let Some(pooled) = refused {
+        if let Some(pooled) = self.put_at_place(pooled, queue) {
             self.end(pooled, SessionEnd::NoMemory);
         }
     }
 
     /// Puts a session at its place and has it watched, under one lock. It comes back where that can't be done.
-    pub fn put_at_place(
-        &self,
-        pooled: PooledSession,
-        queue: Queue,
-        place: usize,
-        fd: i32,
-        interest: Interest,
-    ) -> Option<PooledSession> {
-        let (holder, token) = (pooled.holder(), token_of(place, pooled.number));
+    pub fn put_at_place(&self, pooled: PooledSession, queue: Queue) -> Option<PooledSession> {
+        let (place, fd) = (pooled.place(), pooled.fd());
+        let token = token_of(place, pooled.number());
         let mut table = self.table.lock(self.rt);
-        if let Err(pooled) = table.places.park(pooled, queue) {
+        if let Err(pooled) = table.park(pooled, queue) {
             return Some(pooled);
         }
-        table.holders.put(place, holder);
-        match self.registry.register(&mut SourceFd(&fd), token, interest) {
-            Ok(()) => None,
-            Err(_) => table.places.wake(place),
+        if self.watch(fd, token, interest_in(queue)) {
+            None
+        } else {
+            table.wake(place)
+        }
+    }
+
+    /// Has a socket watched; whether that can be done. None is where nothing is looked for.
+    fn watch(&self, fd: i32, token: usize, interest: Option<Interest>) -> bool {
+        match interest {
+            Some(interest) => {
+                let watched = self
+                    .registry
+                    .register(&mut SourceFd(&fd), Token(token), interest);
+                watched.is_ok()
+            }
+            None => true,
         }
     }
 
@@ -97,25 +100,6 @@ impl<'a, R: Wait + Clock, T: SessionObserver> SessionPool<'a, R, T> {
     fn end_for_memory(&self, pooled: PooledSession) {
         self.budget.count_end();
         self.finish(pooled, SessionEnd::NoMemory);
-    }
-
-    /// Puts a session at its place where no socket wakes it: its next message is answered only later.
-    pub fn delay(&self, mut pooled: PooledSession) {
-        let Ok(now) = Instant::now(self.rt) else {
-            return self.end(pooled, SessionEnd::ReadFailed);
-        };
-        pooled.pause(Queue::Delayed, now);
-        if !self.admits(&mut pooled) {
-            return self.end_for_memory(pooled);
-        }
-        let (place, holder) = (pooled.place, pooled.holder());
-        let mut table = self.table.lock(self.rt);
-        let refused = table.places.park(pooled, Queue::Delayed).err();
-        table.holders.put(place, holder);
-        drop(table);
-        if let Some(pooled) = refused {
-            self.end(pooled, SessionEnd::NoMemory);
-        }
     }
 
     /// For how many microseconds the pool had been there at this moment.
@@ -134,7 +118,7 @@ impl<'a, R: Wait + Clock, T: SessionObserver> SessionPool<'a, R, T> {
 
     /// What seats that answer see of the table, without its lock.
     fn show(&self, table: &Table) {
-        self.queued.store(table.places.ready(), Ordering::SeqCst);
+        self.queued.store(table.ready(), Ordering::SeqCst);
         self.is_led.store(table.lead.is_led(), Ordering::SeqCst);
     }
 
@@ -154,18 +138,19 @@ impl<'a, R: Wait + Clock, T: SessionObserver> SessionPool<'a, R, T> {
         if !self.admits(&mut pooled) {
             return self.end_for_memory(pooled);
         }
-        let (place, holder) = (pooled.place, pooled.holder());
         let now = self.micros();
         let mut table = self.table.lock(self.rt);
-        if let Err(pooled) = table.places.line_up(pooled, Turn::Seat, now) {
-            drop(table);
-            return self.end(pooled, SessionEnd::NoMemory);
+        match table.queue(pooled, now) {
+            Ok(call) => {
+                self.show(&table);
+                drop(table);
+                self.call(call);
+            }
+            Err(pooled) => {
+                drop(table);
+                self.end(pooled, SessionEnd::NoMemory);
+            }
         }
-        table.holders.put(place, holder);
-        let call = table.lead.line_up();
-        self.show(&table);
-        drop(table);
-        self.call(call);
     }
 
     /// Queues a session whose next message may be an update, and has it watched for its client's end.
@@ -177,40 +162,32 @@ impl<'a, R: Wait + Clock, T: SessionObserver> SessionPool<'a, R, T> {
             return self.end_for_memory(pooled);
         }
         pooled.line_up(now);
-        let (place, holder) = (pooled.place, pooled.holder());
-        let (fd, token) = (pooled.stream.as_raw_fd(), token_of(place, pooled.number));
+        let fd = pooled.fd();
+        let token = token_of(pooled.place(), pooled.number());
         let mut table = self.table.lock(self.rt);
-        let micros = self.micros_at(now);
-        if let Err(pooled) = table.places.line_up(pooled, Turn::Update, micros) {
+        if let Err(pooled) = table.queue_update(pooled, self.micros_at(now)) {
             drop(table);
             return self.end(pooled, SessionEnd::NoMemory);
         }
-        table.holders.put(place, holder);
-        self.watch_end(fd, token);
+        self.watch(fd, token, Some(Interest::READABLE));
         drop(table);
         self.work.notify_one();
     }
 
     /// The session of a place no longer waits for its socket, which is ready, but for its turn. Whether one waited there.
     fn rouse(&self, table: &mut Table, place: usize, now: Instant) -> bool {
-        let Some((fd, turn)) = table.places.rouse(place, now, self.micros_at(now)) else {
+        let Some((fd, turn)) = table.rouse(place, now, self.micros_at(now)) else {
             return false;
         };
         let _ = self.registry.deregister(&mut SourceFd(&fd));
         if turn == Turn::Update {
-            if let Some(number) = table.places.number(place) {
-                self.watch_end(fd, token_of(place, number));
+            // It is registered anew, so that what the poll has told of its client is told again.
+            if let Some(token) = table.token_at(place) {
+                self.watch(fd, token, Some(Interest::READABLE));
             }
             self.work.notify_one();
         }
         true
-    }
-
-    /// The socket of a session whose update waits is watched for its client's end. It is registered anew, so that what was told before is told again.
-    fn watch_end(&self, fd: i32, token: Token) {
-        let _ = self
-            .registry
-            .register(&mut SourceFd(&fd), token, Interest::READABLE);
     }
 
     /// The client of the update in this thread is gone.
@@ -221,37 +198,16 @@ impl<'a, R: Wait + Clock, T: SessionObserver> SessionPool<'a, R, T> {
         }
     }
 
-    /// Takes note that the client of a session whose update waits is gone, or, where it sends no more, that it may be.
+    /// Takes note of what an event says of the client of a session whose update waits.
     fn note(&self, table: &mut Table, event: &Event, now: Instant) {
-        let place = place_in(event.token());
-        let Some(thread) = table.updaters.thread_of(place) else {
-            return self.note_in_queue(table, place, event, now);
-        };
-        if event.is_error() || event.is_write_closed() {
-            self.leave(thread);
-        } else if event.is_read_closed() {
-            table.updaters.close(thread, now);
-        }
-    }
-
-    /// The same of one whose update waits for a thread: where its client is gone, no thread makes it.
-    fn note_in_queue(&self, table: &mut Table, place: usize, event: &Event, now: Instant) {
-        let notice = if event.is_error() || event.is_write_closed() {
-            Notice::Over(SessionEnd::ReadFailed)
-        } else if event.is_read_closed() {
-            Notice::SendsNoMore(now)
-        } else {
+        let Some(state) = state_told(event) else {
             return;
         };
-        let is_its = match table.places.number(place) {
-            Some(number) => token_of(place, number) == event.token(),
-            None => false,
-        };
-        if !is_its {
-            return;
-        }
-        if let Some(less) = table.places.notify(self.alloc, place, notice) {
-            self.budget.post(less, 0);
+        let Token(token) = event.token();
+        match table.note(self.alloc, token, state, now) {
+            Noted::Nothing => {}
+            Noted::Leaves(thread) => self.leave(thread),
+            Noted::Gives(less) => self.budget.post(less, 0),
         }
     }
 
@@ -259,7 +215,8 @@ impl<'a, R: Wait + Clock, T: SessionObserver> SessionPool<'a, R, T> {
     fn rouse_all(&self, watch: &Watch, now: Instant) {
         let mut table = self.table.lock(self.rt);
         for event in &watch.events {
-            let place = place_in(event.token());
+            let Token(token) = event.token();
+            let place = place_in(token);
             if self.drop_input(&mut table, place) {
                 continue;
             }
@@ -273,7 +230,7 @@ impl<'a, R: Wait + Clock, T: SessionObserver> SessionPool<'a, R, T> {
     /// Ends the sessions that have waited for too long in a queue.
     fn expire(&self, queue: Queue, limit: Duration, now: Instant, end: SessionEnd) {
         for _ in self.rt.forever() {
-            let overdue = self.table.lock(self.rt).places.overdue(queue, limit, now);
+            let overdue = self.table.lock(self.rt).overdue(queue, limit, now);
             match overdue {
                 Some(pooled) => self.end(pooled, end),
                 None => break,
@@ -286,14 +243,14 @@ impl<'a, R: Wait + Clock, T: SessionObserver> SessionPool<'a, R, T> {
     fn expire_unsent(&self, limit: Duration, now: Instant) {
         for _ in self.rt.forever() {
             let mut table = self.table.lock(self.rt);
-            let Some(mut pooled) = table.places.overdue(Queue::Unsent, part_of(limit), now) else {
+            let Some(mut pooled) = table.overdue(Queue::Unsent, part_of(limit), now) else {
                 break;
             };
             let slow = pooled.wait_on(limit, now);
             let ends = if slow {
                 Some((pooled, SessionEnd::WriteFailed))
             } else {
-                match table.places.park(pooled, Queue::Unsent) {
+                match table.park(pooled, Queue::Unsent) {
                     Ok(()) => None,
                     Err(pooled) => Some((pooled, SessionEnd::NoMemory)),
                 }
@@ -312,7 +269,6 @@ impl<'a, R: Wait + Clock, T: SessionObserver> SessionPool<'a, R, T> {
             let overdue = self
                 .table
                 .lock(self.rt)
-                .places
                 .overdue(Queue::Leaving, limit, now);
             match overdue {
                 Some(pooled) => self.close(pooled),
@@ -325,7 +281,7 @@ impl<'a, R: Wait + Clock, T: SessionObserver> SessionPool<'a, R, T> {
     fn leave_all(&self, limit: Duration, now: Instant) {
         let mut table = self.table.lock(self.rt);
         for _ in self.rt.forever() {
-            match table.updaters.gone(limit, now) {
+            match table.gone(limit, now) {
                 Some(thread) => self.leave(thread),
                 None => break,
             }
@@ -339,7 +295,6 @@ impl<'a, R: Wait + Clock, T: SessionObserver> SessionPool<'a, R, T> {
             let overdue = self
                 .table
                 .lock(self.rt)
-                .places
                 .overdue(Queue::Delayed, limit, now);
             match overdue {
                 Some(mut pooled) => {
@@ -354,18 +309,10 @@ impl<'a, R: Wait + Clock, T: SessionObserver> SessionPool<'a, R, T> {
     /// Has seats answer the updates that have waited for a thread for too long.
     fn refuse_overdue(&self, limit: Duration, now: Instant) {
         for _ in self.rt.forever() {
-            let mut table = self.table.lock(self.rt);
-            let is_overdue = match table.places.oldest_update() {
-                Some(pooled) => is_past(pooled.asked, limit, now),
-                None => false,
-            };
-            if !is_overdue {
-                break;
-            }
-            let Some(mut pooled) = table.places.next_update() else {
+            let overdue = self.table.lock(self.rt).overdue_update(limit, now);
+            let Some(mut pooled) = overdue else {
                 break;
             };
-            drop(table);
             self.unwatch_end(&pooled);
             pooled.give_up_update();
             self.queue(pooled);
@@ -374,7 +321,7 @@ impl<'a, R: Wait + Clock, T: SessionObserver> SessionPool<'a, R, T> {
 
     /// The socket of a session whose update waits no more is watched no more.
     pub fn unwatch_end(&self, pooled: &PooledSession) {
-        let fd = pooled.stream.as_raw_fd();
+        let fd = pooled.fd();
         let _ = self.registry.deregister(&mut SourceFd(&fd));
     }
 
@@ -389,25 +336,14 @@ impl<'a, R: Wait + Clock, T: SessionObserver> SessionPool<'a, R, T> {
             return most;
         };
         let table = self.table.lock(self.rt);
-        if table.places.ready() > 0 {
+        if table.ready() > 0 {
             return Duration::from_secs(0);
         }
-        most.min(table.places.time_left(Queue::Inside, limits.message, now))
-            .min(
-                table
-                    .places
-                    .time_left(Queue::Unsent, part_of(limits.write), now),
-            )
-            .min(
-                table
-                    .places
-                    .time_left(Queue::Leaving, Duration::from_millis(FAREWELL), now),
-            )
-            .min(
-                table
-                    .places
-                    .time_left(Queue::Delayed, Duration::from_millis(DELAY), now),
-            )
+        let (farewell, delay) = (Duration::from_millis(FAREWELL), Duration::from_millis(DELAY));
+        most.min(table.time_left(Queue::Inside, limits.message, now))
+            .min(table.time_left(Queue::Unsent, part_of(limits.write), now))
+            .min(table.time_left(Queue::Leaving, farewell, now))
+            .min(table.time_left(Queue::Delayed, delay, now))
             .max(Duration::from_millis(1))
     }
 
@@ -474,7 +410,7 @@ impl<'a, R: Wait + Clock, T: SessionObserver> SessionPool<'a, R, T> {
             if table.is_closed {
                 return None;
             }
-            let ready = table.places.ready();
+            let ready = table.ready();
             let (act, call) = table.lead.free(was, ready);
             match act {
                 Act::Rest => {
@@ -486,10 +422,7 @@ impl<'a, R: Wait + Clock, T: SessionObserver> SessionPool<'a, R, T> {
                     return None;
                 }
                 Act::Serve => {
-                    let pooled = table.places.next_ready();
-                    if let Some(pooled) = &pooled {
-                        table.holders.take(pooled.place);
-                    }
+                    let pooled = table.next_ready();
                     self.show(&table);
                     drop(table);
                     self.call(call);
@@ -507,14 +440,14 @@ impl<'a, R: Wait + Clock, T: SessionObserver> SessionPool<'a, R, T> {
     /// A session that a thread has taken, as it is to be served; none, where it was over before its turn. An update that has waited for too long is
     /// answered here.
     fn ready_to_serve(&self, mut pooled: PooledSession) -> Option<PooledSession> {
-        if let Some(end) = pooled.over {
+        if let Some(end) = pooled.over() {
             self.end(pooled, end);
             return None;
         }
         if pooled.has_given_up() {
             self.refuse_update(&mut pooled);
             pooled.take_up();
-        } else if pooled.conversation.is_search_next() && !self.relieve() {
+        } else if pooled.is_search_next() && !self.relieve() {
             self.refuse_search(&mut pooled);
         }
         Some(pooled)
@@ -549,7 +482,7 @@ impl<'a, R: Wait + Clock, T: SessionObserver> SessionPool<'a, R, T> {
     fn take_update(&self, thread: usize) -> Option<PooledSession> {
         let mut table = self.table.lock(self.rt);
         for _ in self.rt.forever() {
-            if table.is_closed || table.places.has_updates() {
+            if table.is_closed || table.has_updates() {
                 break;
             }
             table = self.work.wait(self.rt, table);
@@ -557,12 +490,10 @@ impl<'a, R: Wait + Clock, T: SessionObserver> SessionPool<'a, R, T> {
         if table.is_closed {
             return None;
         }
-        let pooled = table.places.next_update()?;
-        table.holders.take(pooled.place);
+        let pooled = table.next_update(thread)?;
         if let Some(leaves) = self.leaves.get(thread) {
             leaves.store(false, Ordering::SeqCst);
         }
-        table.updaters.post(thread, pooled.place, pooled.closed);
         Some(pooled)
     }
 

@@ -1,15 +1,12 @@
 //! Closes the sockets of sessions that are over so that clients get all answers: the system resets a connection that is closed with unread
 //! input, and what is on its way is lost. No thread waits for that.
-use crate::leading::token_of;
 use crate::pool::SessionPool;
-use crate::pooled::PooledSession;
-use crate::table::Table;
 use crate::tells::SessionObserver;
 use client_link::SessionEnd;
-use mio::Interest;
 use mio::unix::SourceFd;
+use mio::{Interest, Token};
+use session_table::{Farewell, PooledSession, Table};
 use session_turns::Queue;
-use std::os::fd::AsRawFd;
 use std::sync::Wait;
 use std::time::{Clock, Instant};
 
@@ -18,17 +15,6 @@ pub const FAREWELL: u64 = 1_000;
 
 /// How many octets are dropped at once, at most.
 const PIECE: usize = 8192;
-
-/// What was dropped.
-#[derive(Clone, Copy, Debug, PartialEq, Eq)]
-pub enum Dropped {
-    /// As much as is dropped at once: there may be more.
-    Much,
-    /// All that had come.
-    All,
-    /// The client sends no more.
-    Over,
-}
 
 /// Whether the client of a session that ends so may still send, and what it has sent may be unread: none, some that has come, or what comes later.
 #[derive(Clone, Copy, Debug, PartialEq, Eq)]
@@ -49,15 +35,13 @@ fn unread_at(end: SessionEnd) -> Unread {
 impl<'a, R: Wait + Clock, T: SessionObserver> SessionPool<'a, R, T> {
     /// A session is over: its socket is closed before its place is free.
     pub fn close(&self, mut pooled: PooledSession) {
-        let place = pooled.place;
-        self.give_back(&mut pooled);
-        drop(pooled);
-        self.table.lock(self.rt).places.free(place);
+        pooled.give_back(self.budget);
+        self.table.lock(self.rt).end(pooled);
     }
 
     /// A session is over, and its socket is closed at once.
     pub fn end(&self, pooled: PooledSession, end: SessionEnd) {
-        let number = pooled.number;
+        let number = pooled.number();
         self.close(pooled);
         self.teller.ended(number, end);
     }
@@ -72,7 +56,7 @@ impl<'a, R: Wait + Clock, T: SessionObserver> SessionPool<'a, R, T> {
         if unread == Unread::Nothing {
             return self.end(pooled, end);
         }
-        self.give_back(&mut pooled);
+        pooled.give_back(self.budget);
         match pooled.retire(self.alloc, now) {
             Ok(()) => {}
             Err(_) => return self.end(pooled, end),
@@ -80,35 +64,25 @@ impl<'a, R: Wait + Clock, T: SessionObserver> SessionPool<'a, R, T> {
         if unread == Unread::Perhaps && !pooled.has_unread() {
             return self.end(pooled, end);
         }
-        self.teller.ended(pooled.number, end);
-        let (place, fd) = (pooled.place, pooled.stream.as_raw_fd());
-        let refused = self.put_at_place(pooled, Queue::Leaving, place, fd, Interest::READABLE);
-        if let Some(pooled) = refused {
+        self.teller.ended(pooled.number(), end);
+        if let Some(pooled) = self.put_at_place(pooled, Queue::Leaving) {
             self.close(pooled);
         }
     }
 
     /// Drops what the client of a session has sent that is over. Whether such a session is at this place.
     pub fn drop_input(&self, table: &mut Table, place: usize) -> bool {
-        let Some(pooled) = table.places.leaving(place) else {
-            return false;
-        };
-        let (fd, token) = (pooled.stream.as_raw_fd(), token_of(place, pooled.number));
         let mut buffer = [0u8; PIECE];
-        match pooled.drop_input(&mut buffer) {
-            Dropped::All => {}
+        match table.drop_input(place, &mut buffer) {
+            Farewell::Elsewhere => false,
+            Farewell::Nothing => true,
             // The poll tells once of what has come: it is asked again.
-            Dropped::Much => {
+            Farewell::AsksAgain(fd, token) => {
                 let _ = self
                     .registry
-                    .reregister(&mut SourceFd(&fd), token, Interest::READABLE);
-            }
-            Dropped::Over => {
-                let over = table.places.wake(place);
-                drop(over);
-                table.places.free(place);
+                    .reregister(&mut SourceFd(&fd), Token(token), Interest::READABLE);
+                true
             }
         }
-        true
     }
 }

@@ -50,14 +50,9 @@ mod memory;
 mod no_node;
 mod no_reads;
 mod no_room;
-mod place_state;
-mod places;
 mod pool;
-mod pooled;
 mod running;
-mod table;
 mod tells;
-mod updaters;
 mod updating;
 
 pub use client_link::{
@@ -70,4 +65,5 @@ pub use no_reads::NoReads;
 pub use pool::{PoolSettings, SessionPool};
 pub use running::serve_sessions;
 pub use session_turns::{Budget, limit_of};
-pub use tells::{Away, SessionObserver, Traffic};
+pub use session_table::Traffic;
+pub use tells::{Away, SessionObserver};

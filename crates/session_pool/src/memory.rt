@@ -2,31 +2,24 @@
 //! session is ended where there is too little is decided in `session_turns`.
 ghost use Rattle.client_link.specs.session_handler.View.{config_view};
 ghost use Rattle.client_link.specs.Served.{config_of};
-ghost use Rattle.session_pool.specs.Attending.{talk, IsSame};
+ghost use Rattle.session_table.specs.Attending.{talk, IsSame};
 ghost use Rattle.session_pool.specs.Refused.{FindsNoRoom};
 
 use crate::no_room::NoRoom;
 use crate::pool::SessionPool;
-use crate::pooled::{MakesRoom, Notice, PooledSession};
 use crate::tells::SessionObserver;
 use client_link::{Config, SessionEnd};
 use session_turns::Holder;
+use session_table::{MakesRoom, Notice, PooledSession};
 use std::sync::Wait;
 use std::time::Clock;
 
 impl<'a, R: Wait + Clock, T: SessionObserver> SessionPool<'a, R, T> {
     /// What a session holds is posted; whether it may go on: there is room for it, or others are ended for it. One that holds nothing may.
     pub fn admits(&self, pooled: &mut PooledSession) -> bool {
-        let held = pooled.held();
-        self.budget.post(pooled.posted, held);
-        pooled.posted = held;
-        held == 0 || self.has_room(pooled.holder())
-    }
-
-    /// A session that ends holds nothing.
-    pub fn give_back(&self, pooled: &mut PooledSession) {
-        self.budget.post(pooled.posted, 0);
-        pooled.posted = 0;
+        pooled.post(self.budget);
+        let own = pooled.holder();
+        own.octets == 0 || self.has_room(own)
     }
 
     /// Ends sessions that hold more than this one until all hold no more than they may; false, where it is this one's turn to end.
@@ -36,7 +29,7 @@ impl<'a, R: Wait + Clock, T: SessionObserver> SessionPool<'a, R, T> {
             if !self.budget.is_over() {
                 break;
             }
-            let rather = self.table.lock(self.rt).holders.rather(own);
+            let rather = self.table.lock(self.rt).rather(own);
             let Some(place) = rather else {
                 has_room = !own.may_end();
                 break;
@@ -56,7 +49,7 @@ impl<'a, R: Wait + Clock, T: SessionObserver> SessionPool<'a, R, T> {
             if !self.budget.is_tight() {
                 break;
             }
-            let rather = self.table.lock(self.rt).holders.rather(least);
+            let rather = self.table.lock(self.rt).rather(least);
             match rather {
                 Some(place) => self.end_at(place),
                 None => break,
@@ -71,24 +64,21 @@ impl<'a, R: Wait + Clock, T: SessionObserver> SessionPool<'a, R, T> {
         ensures refused { FindsNoRoom (config_of (config_view self.now.config) pooled.old.number) (talk pooled.old) (talk pooled.new) }
     {
         let config = Config {
-            session: pooled.number,
+            session: pooled.number(),
             ..self.config
         };
         let mut room = NoRoom;
-        pooled.conversation.answer(self.alloc, &config, &mut room);
+        pooled.answer(self.alloc, &config, &mut room);
     }
 
     /// Ends the session at a place as one that ran out of memory, where one is there: at once where it waits for its client, else in its turn, when it
     /// holds nothing any more.
     fn end_at(&self, place: usize) {
         let mut table = self.table.lock(self.rt);
-        table.holders.take(place);
-        let waiting = table.places.wake(place);
+        let waiting = table.wake(place);
         let less = match &waiting {
             Some(_) => None,
-            None => table
-                .places
-                .notify(self.alloc, place, Notice::Over(SessionEnd::NoMemory)),
+            None => table.notify(self.alloc, place, Notice::Over(SessionEnd::NoMemory)),
         };
         drop(table);
         if let Some(less) = less {

@@ -1,8 +1,8 @@
 //! A pool: what its threads share.
-use crate::table::Table;
 use client_link::{Config, Door};
 use mio::{Events, Poll, Registry, Token, Waker};
 use session_turns::Budget;
+use session_table::Table;
 use std::alloc::Global;
 use std::io;
 use std::net::Net;

@@ -1,5 +1,6 @@
 //! What a pool reports of sessions, and to whom.
 use client_link::SessionEnd;
+use session_table::Traffic;
 use std::alloc::AllocError;
 use std::net::SocketAddr;
 
@@ -12,15 +13,6 @@ pub enum Away {
     Full,
     /// The system had no descriptor for a further one, and it was silent for longest.
     NoDescriptor,
-}
-
-/// How many octets have passed between a session and its client.
-#[derive(Clone, Copy, Debug, PartialEq, Eq)]
-pub struct Traffic {
-    /// What was read of the client.
-    pub read: u64,
-    /// What was written to it.
-    pub written: u64,
 }
 
 /// Who is told of sessions.

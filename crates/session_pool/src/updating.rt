@@ -1,22 +1,23 @@
 //! Updates, in threads of their own, so that one that waits for other replicas holds up no read. What an update asks for is below.
 ghost use Rattle.client_link.specs.session_handler.View.{config_view};
 ghost use Rattle.client_link.specs.Served.{config_of};
-ghost use Rattle.session_pool.specs.Attending.{talk, IsSame, Answers};
+ghost use Rattle.session_table.specs.Attending.{talk, IsSame};
+ghost use Rattle.session_pool.specs.Answering.{Answers};
 ghost use Rattle.session_pool.specs.Refused.{IsRefused};
 ghost use Rattle.session_pool.specs.Sittings.{HasUpdatedSome};
 
 use crate::no_node::NoNode;
 use crate::pool::SessionPool;
-use crate::pooled::PooledSession;
 use crate::tells::SessionObserver;
 use client_link::{Config, Directory};
+use session_table::PooledSession;
 use std::sync::Wait;
 use std::time::Clock;
 
 impl<'a, R: Wait + Clock, T: SessionObserver> SessionPool<'a, R, T> {
     /// The update of a session waits no more.
     pub fn unwatch(&self, thread: usize, pooled: &PooledSession) {
-        self.table.lock(self.rt).updaters.unpost(thread);
+        self.table.lock(self.rt).unpost(thread);
         self.unwatch_end(pooled);
     }
 
@@ -26,11 +27,11 @@ impl<'a, R: Wait + Clock, T: SessionObserver> SessionPool<'a, R, T> {
         ensures refused { IsRefused (config_of (config_view self.now.config) pooled.old.number) (talk pooled.old) (talk pooled.new) }
     {
         let config = Config {
-            session: pooled.number,
+            session: pooled.number(),
             ..self.config
         };
         let mut node = NoNode;
-        pooled.conversation.answer(self.alloc, &config, &mut node);
+        pooled.answer(self.alloc, &config, &mut node);
     }
 
     /// Answers the next message of a session, for whose client's end this thread is watched.
@@ -40,10 +41,10 @@ impl<'a, R: Wait + Clock, T: SessionObserver> SessionPool<'a, R, T> {
             (talk pooled.new) directory.old directory.new }
     {
         let config = Config {
-            session: pooled.number,
+            session: pooled.number(),
             ..self.config
         };
-        pooled.conversation.answer(self.alloc, &config, directory);
+        pooled.answer(self.alloc, &config, directory);
         self.unwatch(thread, pooled);
     }
 

@@ -1,7 +1,8 @@
 use Rattle.std.proofs.Common.{sym, subst}
 use Rattle.client_link.specs.session_handler.View.{config_view}
 use Rattle.client_link.specs.ldap_session.View.{ConversationValue}
-use Rattle.session_pool.specs.Attending.{talk, Answers}
+use Rattle.session_table.specs.Attending.{talk}
+use Rattle.session_pool.specs.Answering.{Answers}
 use Rattle.session_pool.proofs.pool.SessionPool.answer_and_tell.Goals as goal
 
 pub returns-in-Some-clause-answers : goal.returns-in-Some-clause-answers

@@ -1,5 +1,6 @@
 use Rattle.client_link.specs.session_handler.View.{config_view}
-use Rattle.session_pool.specs.Attending.{talk, IsSame, AnswersSome}
+use Rattle.session_table.specs.Attending.{talk, IsSame}
+use Rattle.session_pool.specs.Answering.{AnswersSome}
 use Rattle.session_pool.proofs.pool.SessionPool.answer_some.Given as goal
 
 -- the messages so far are answered

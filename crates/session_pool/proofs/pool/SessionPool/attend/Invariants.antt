@@ -1,6 +1,6 @@
 use Rattle.client_link.specs.session_handler.View.{config_view}
 use Rattle.client_link.specs.Served.{config_of}
-use Rattle.session_pool.specs.Attending.{talk, IsSame, Becomes}
+use Rattle.session_table.specs.Attending.{talk, IsSame, Becomes}
 use Rattle.session_pool.specs.Sittings.{InARowUpTo}
 use Rattle.session_pool.proofs.pool.SessionPool.attend.Given as goal
 

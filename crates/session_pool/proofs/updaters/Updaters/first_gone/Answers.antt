@@ -1,9 +1,0 @@
-use Rattle.std.proofs.Common.{arith}
-use Rattle.session_pool.specs.private.Posting.{posted}
-use Rattle.session_pool.proofs.Posted.{gone_within}
-use Rattle.session_pool.proofs.updaters.Updaters.first_gone.Goals as goal
-
-pub returns-clause-none : goal.returns-clause-none
-returns-clause-none c = λ t h.
-    let within = gone_within (posted c.args.self.now) c.args.limit c.args.now t h in
-    c.loop-thread.invariant t (omega arith) h

@@ -1,0 +1,9 @@
+pub mod Attending
+pub mod Holding
+pub mod Laying
+pub mod Noting
+pub mod Posting
+pub mod Tabling
+pub mod Tokens
+pub mod Waiting
+pub mod private
