@@ -1,11 +1,11 @@
 -- A session that begins as it is to begin.
 use Rattle.std.proofs.Common.{◌≡◌, ℕ, List, Bool, Option, subst}
 use Rattle.local_directory.specs.ldap_schema.Schema.{SchemaModel}
-use Rattle.hex_session.specs.session_handler.Session.{ConfigValue}
+use Rattle.local_directory.specs.session_handler.Session.{ConfigValue}
 use Rattle.local_directory.specs.Local.{LocalValue}
 use Rattle.local_directory.specs.Allows.{allows}
-use Rattle.hex_session.specs.ldap_session.declared.end.SessionEnd.{SessionEnd}
-use Rattle.hex_session.specs.Answered.{Answers}
+use Rattle.local_directory.specs.ldap_session.declared.end.SessionEnd.{SessionEnd}
+use Rattle.local_directory.specs.Answered.{Answers}
 use Rattle.dird_commands.specs.Begun.{config_of, local_at_first, AnswersFrom}
 
 -- a session that begins with this configuration and this directory

@@ -1,6 +1,6 @@
 -- The lines of an input, as they are read one after the other.
 use Rattle.std.proofs.Common.{◌≡◌, ℕ, List, [], ◌∷◌, ◌++◌, false, Option, None, Some, IfSome, refl, sym, subst, append_assoc, append-nil}
-use Rattle.hex_session.specs.Lines.{is_empty, first_line, after_line, IsNextLine}
+use Rattle.local_directory.specs.Lines.{is_empty, first_line, after_line, IsNextLine}
 use Rattle.dird_commands.specs.private.Played.{AreLines}
 
 -- Of an input these lines were read, and this is left: its lines, whichever they are, come behind them.

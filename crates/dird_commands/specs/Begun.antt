@@ -7,12 +7,12 @@ use Rattle.local_directory.specs.indexed_tree.Directory.{Directory}
 use Rattle.local_directory.specs.dir_store.Updates.{directory_after}
 use Rattle.std.specs.FinMap as map
 use Rattle.local_directory.specs.directory_api.Clients.{session_client}
-use Rattle.hex_session.specs.session_handler.Session.{ConfigValue}
+use Rattle.local_directory.specs.session_handler.Session.{ConfigValue}
 use Rattle.local_directory.specs.Local.{LocalValue}
 use Rattle.local_directory.specs.Allows.{allows}
-use Rattle.hex_session.specs.ldap_session.declared.end.SessionEnd.{SessionEnd}
-use Rattle.hex_session.specs.Answered.{Answers, Fails}
-use Rattle.hex_session.specs.declared.fault.LineFault.{LineFault}
+use Rattle.local_directory.specs.ldap_session.declared.end.SessionEnd.{SessionEnd}
+use Rattle.local_directory.specs.Answered.{Answers, Fails}
+use Rattle.local_directory.specs.declared.line_fault.LineFault.{LineFault}
 use Rattle.dird_commands.specs.declared.fault.Fault.{Fault}
 use Rattle.dird_commands.specs.Undone.{line_fault}
 use Rattle.dird_commands.specs.Sample.{sample}

@@ -1,6 +1,6 @@
 -- What a job leaves that ends with a fault, and which fault it is, by an input and an output before and after.
-use Rattle.hex_session.specs.declared.fault.LineFault.{LineFault}
-use Rattle.hex_session.specs.declared.fault.LineFault.TheVariants as line_error
+use Rattle.local_directory.specs.declared.line_fault.LineFault.{LineFault}
+use Rattle.local_directory.specs.declared.line_fault.LineFault.TheVariants as line_error
 use Rattle.local_directory.specs.ldif.declared.refusals.ImportError.{ImportError}
 use Rattle.local_directory.specs.ldif.declared.refusals.ImportError.TheVariants as import_error
 use Rattle.local_directory.specs.ldif.declared.refusals.ExportError.{ExportError}
@@ -10,8 +10,7 @@ use Rattle.local_directory.specs.declared.fault.SearchError.TheVariants as searc
 use Rattle.filter_text.specs.declared.fault.FilterTextError.{FilterTextError}
 use Rattle.filter_text.specs.declared.fault.FilterTextError.TheVariants as filter_error
 use Rattle.dird_commands.specs.declared.fault.Fault.{Fault}
-use Rattle.dird_commands.specs.declared.fault.Fault.TheVariants.{Placed, TooDeep, TooManyItems, BadHexLine, CannotRead}
-use Rattle.dird_commands.specs.declared.fault.Fault.TheVariants.{CannotWrite, TooLong, Import, Export, Search, NoMemory}
+use Rattle.dird_commands.specs.declared.fault.Fault.TheVariants.{Placed, TooDeep, TooManyItems, BadHexLine, CannotRead, CannotWrite, TooLong, Import, Export, Search, NoMemory}
 
 -- a fault of the text of an import; want of memory is one fault, wherever it comes
 abbrev pub import_fault : ImportError → Fault

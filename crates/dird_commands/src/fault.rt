@@ -4,9 +4,8 @@ ghost use Rattle.std.specs.Prelude.{◌≡◌};
 ghost use Rattle.dird_commands.specs.declared.fault.Fault.TheVariants.{Placed, NoMemory};
 
 use filter_text::FilterTextError;
-use hex_session::LineFault;
 use lab_script::ScriptError;
-use local_directory::{ExportError, ImportError, IndexError, SearchError};
+use local_directory::{ExportError, ImportError, IndexError, LineFault, SearchError};
 use schema_reader::SchemaError;
 use std::alloc::{AllocError, AllocFailed};
 use thiserror::Error;

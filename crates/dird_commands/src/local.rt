@@ -3,14 +3,15 @@ ghost use Rattle.std.specs.Prelude.{◌≡◌, ◌+◌, codes, IfOk, IfErr};
 ghost use Rattle.std.specs.Arc.{arc_value};
 ghost use Rattle.local_directory.specs.indexed_tree.Stored.{NumbersBelow};
 ghost use Rattle.local_directory.specs.Allows.{allows};
-ghost use Rattle.hex_session.specs.Answered.{Answers};
+ghost use Rattle.local_directory.specs.Answered.{Answers};
 ghost use Rattle.dird_commands.specs.Begun.{name_of, config_of, empty_directory, directory_at_first, number_at_first, AnswersFrom, IsCutFrom, FailsFrom};
 ghost use Rattle.dird_commands.specs.private.Played.{IsUnnamed};
 
 use crate::fault::Fault;
 use crate::sample::add_sample;
-use hex_session::{Config, SessionEnd, answer_lines};
-use local_directory::{Indexes, LocalDirectory, Name, NameError, Schema, Store};
+use local_directory::{
+    Config, Indexes, LocalDirectory, Name, NameError, Schema, SessionEnd, Store, answer_lines,
+};
 use std::alloc::Global;
 use std::io::{BufRead, Write};
 use std::sync::Arc;

@@ -12,7 +12,7 @@ use crate::service::{Service, service_of};
 use crate::status::ExitStatus;
 use crate::texts::{export_input, import_input, search_input};
 use command_line::{Checking, Error, Job, Opening, Question, read_words};
-use hex_session::SessionEnd;
+use local_directory::SessionEnd;
 use std::alloc::Global;
 use std::io::{BufRead, Write};
 use std::sync::Arc;

@@ -4,3 +4,6 @@ pub mod Unchanged
 pub mod Ends
 pub mod Folds
 pub mod Once
+pub mod Growing
+pub mod Worked
+pub mod Reading

@@ -7,6 +7,9 @@ pub mod Added
 pub mod Checked
 pub mod Searched
 pub mod Filled
+pub mod Lines
+pub mod Faults
+pub mod Answered
 pub mod private
 -- what layers above name of the crates below
 pub use Rattle.dir_store.specs.directory_api.ldap_requests as ldap_requests
@@ -19,3 +22,5 @@ pub use Rattle.dir_store.specs.indexed_tree as indexed_tree
 pub use Rattle.dir_store.specs as dir_store
 pub use Rattle.dir_store.specs.directory_api as directory_api
 pub use Rattle.ldif.specs as ldif
+pub use Rattle.ldap_session.specs.session_handler as session_handler
+pub use Rattle.ldap_session.specs as ldap_session

@@ -4,3 +4,6 @@ pub mod ClientOrder
 pub mod Changes
 pub mod Added
 pub mod Searched
+pub mod Lines
+pub mod Faults
+pub mod Answered

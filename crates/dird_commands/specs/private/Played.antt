@@ -2,7 +2,7 @@
 -- What public contracts say is in specs/Played.
 use Rattle.std.specs.Prelude.{◌≡◌, ◌⊎◌, ℕ, List, [], ◌∷◌, false, Option, None, IfSome, codes, flat_map}
 use Rattle.lab_script.specs.dir_lab.Shown.{Shown}
-use Rattle.hex_session.specs.Lines.{is_empty, first_line, after_line}
+use Rattle.local_directory.specs.Lines.{is_empty, first_line, after_line}
 use Rattle.lab_script.specs.Script.{IsBadLine}
 use Rattle.lab_script.specs.Played.{IsPlayed}
 use Rattle.local_directory.specs.ldap_schema.Schema.{SchemaModel}

@@ -3,9 +3,9 @@ use Rattle.std.specs.Prelude.{IfErr}
 use Rattle.local_directory.specs.ldap_dn.Names.{RdnModel}
 use Rattle.local_directory.specs.directory_api.Clients.{session_client}
 use Rattle.local_directory.specs.Local.{LocalValue}
-use Rattle.hex_session.specs.session_handler.Session.{ConfigValue}
+use Rattle.local_directory.specs.session_handler.Session.{ConfigValue}
 use Rattle.local_directory.specs.Allows.{allows}
-use Rattle.hex_session.specs.Answered.{Answers}
+use Rattle.local_directory.specs.Answered.{Answers}
 use Rattle.dird_commands.specs.declared.fault.Fault.{Fault}
 use Rattle.dird_commands.specs.Begun.{IsCutFrom}
 use Rattle.dird_commands.proofs.local.answer_over.Goals as goal

@@ -7,8 +7,8 @@ use Rattle.local_directory.specs.indexed_tree.Directory.{Directory}
 use Rattle.local_directory.specs.Local.{LocalValue}
 use Rattle.local_directory.specs.Allows.{allows}
 use Rattle.local_directory.specs.ldap_schema.Schema.{SchemaModel}
-use Rattle.hex_session.specs.Answered.{Answers}
-use Rattle.hex_session.specs.session_handler.Session.{ConfigValue}
+use Rattle.local_directory.specs.Answered.{Answers}
+use Rattle.local_directory.specs.session_handler.Session.{ConfigValue}
 use Rattle.dird_commands.specs.declared.fault.Fault.{Fault}
 use Rattle.dird_commands.specs.Begun.{config_of, directory_at_first, local_at_first, AnswersFrom, IsCutFrom, FailsFrom}
 use Rattle.dird_commands.proofs.Beginning.{answers_from}

@@ -6,10 +6,10 @@ use Rattle.ldap_session.specs.Octets.{joined}
 use Rattle.ldap_session.specs.Serving.{Ends}
 use Rattle.ldap_session.specs.declared.end.SessionEnd.{SessionEnd}
 use Rattle.ldap_session.specs.declared.end.SessionEnd.TheVariants.{Unbound, EndOfInput, Truncated, Disconnected, ReadFailed, WriteFailed, NoMemory}
-use Rattle.hex_session.specs.Lines.{Spell, message_lines, after_lines}
-use Rattle.hex_session.specs.Faults.{IsBadLine, end_of}
-use Rattle.hex_session.specs.declared.fault.LineFault.{LineFault}
-use Rattle.hex_session.specs.declared.fault.LineFault.TheVariants.{BadHexLine, CannotRead, CannotWrite, TooLong, NoMemory as NoMemoryFault}
+use Rattle.local_directory.specs.Lines.{Spell, message_lines, after_lines}
+use Rattle.local_directory.specs.Faults.{IsBadLine, end_of}
+use Rattle.local_directory.specs.declared.line_fault.LineFault.{LineFault}
+use Rattle.local_directory.specs.declared.line_fault.LineFault.TheVariants.{BadHexLine, CannotRead, CannotWrite, TooLong, NoMemory as NoMemoryFault}
 
 -- A session over lines ends with no fault: by the client, by the server, or where its input ends, between two messages
 -- or inside one.

@@ -3,10 +3,10 @@
 use Rattle.std.specs.Prelude.{◌≡◌, ℕ, List, false, Option}
 use Rattle.std.specs.Io.KnownBytes.{Appends}
 use Rattle.ldap_session.specs.Octets.{IsFront}
-use Rattle.hex_session.specs.Lines.{is_empty, IsNoHex}
-use Rattle.hex_session.specs.declared.fault.LineFault.{LineFault}
-use Rattle.hex_session.specs.declared.fault.LineFault.TheVariants.{BadHexLine, CannotRead, CannotWrite, TooLong, NoMemory}
-use Rattle.hex_session.specs.Faults.{IsWriteFault, IsBadLine}
+use Rattle.local_directory.specs.Lines.{is_empty, IsNoHex}
+use Rattle.local_directory.specs.declared.line_fault.LineFault.{LineFault}
+use Rattle.local_directory.specs.declared.line_fault.LineFault.TheVariants.{BadHexLine, CannotRead, CannotWrite, TooLong, NoMemory}
+use Rattle.local_directory.specs.Faults.{IsWriteFault, IsBadLine}
 
 -- what comes of reading a line of this number: it is named, where it is no hex
 abbrev pub IsLineFault : List ℕ → ℕ → LineFault → Type 0

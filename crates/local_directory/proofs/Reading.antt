@@ -19,18 +19,18 @@ use Rattle.ldap_session.specs.declared.end.SessionEnd.TheVariants.{Unbound, EndO
 use Rattle.ldap_session.proofs.Written.{joined_append, whole_front}
 use Rattle.ldap_session.proofs.Progressed.{ends_here}
 use Rattle.ldap_session.proofs.Served.{awaiting, last}
-use Rattle.hex_session.specs.Lines.{after_line, after_lines, Spell, stops, skips, spells, message_lines}
-use Rattle.hex_session.specs.private.Lines.{BeginsWith}
-use Rattle.hex_session.specs.Faults.{IsReadFault, IsWriteFault, end_of}
-use Rattle.hex_session.specs.private.Faults.{IsLineFault}
-use Rattle.hex_session.specs.Answered.{IsAllRead, IsAnswered, Answers, IsCause, IsCutShort, Fails}
-use Rattle.hex_session.specs.private.Answered.{ComesTo, HasFed, HasFailedAt, EndsBy, IsUntouched, Takes, FailsAt}
-use Rattle.hex_session.specs.declared.line.Line.{Line}
-use Rattle.hex_session.specs.declared.line.Line.TheVariants.{End, Blank, Piece}
-use Rattle.hex_session.specs.declared.answering.Flow.{Flow}
-use Rattle.hex_session.specs.declared.answering.Flow.TheVariants.{Goes, Ends as EndsWith}
-use Rattle.hex_session.specs.declared.fault.LineFault.{LineFault}
-use Rattle.hex_session.specs.declared.fault.LineFault.TheVariants.{BadHexLine, CannotRead, CannotWrite, TooLong, NoMemory as NoMemoryFault}
+use Rattle.local_directory.specs.Lines.{after_line, after_lines, Spell, stops, skips, spells, message_lines}
+use Rattle.local_directory.specs.private.Lines.{BeginsWith}
+use Rattle.local_directory.specs.Faults.{IsReadFault, IsWriteFault, end_of}
+use Rattle.local_directory.specs.private.Faults.{IsLineFault}
+use Rattle.local_directory.specs.Answered.{IsAllRead, IsAnswered, Answers, IsCause, IsCutShort, Fails}
+use Rattle.local_directory.specs.private.Answered.{ComesTo, HasFed, HasFailedAt, EndsBy, IsUntouched, Takes, FailsAt}
+use Rattle.local_directory.specs.declared.line.Line.{Line}
+use Rattle.local_directory.specs.declared.line.Line.TheVariants.{End, Blank, Piece}
+use Rattle.local_directory.specs.declared.answering.Flow.{Flow}
+use Rattle.local_directory.specs.declared.answering.Flow.TheVariants.{Goes, Ends as EndsWith}
+use Rattle.local_directory.specs.declared.line_fault.LineFault.{LineFault}
+use Rattle.local_directory.specs.declared.line_fault.LineFault.TheVariants.{BadHexLine, CannotRead, CannotWrite, TooLong, NoMemory as NoMemoryFault}
 
 spell_then : (xs ys zs : List ℕ) (ms ns : List (List ℕ)) → Spell xs ms ys → Spell ys ns zs → Spell xs (ms ++ ns) zs
 spell_then xs ys zs ms ns stops second = second

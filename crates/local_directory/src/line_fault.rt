@@ -1,6 +1,6 @@
 //! What ends a session over lines early.
 ghost use Rattle.std.specs.Prelude.{◌≡◌};
-ghost use Rattle.hex_session.specs.declared.fault.LineFault.TheVariants.{NoMemory};
+ghost use Rattle.local_directory.specs.declared.line_fault.LineFault.TheVariants.{NoMemory};
 
 use ldap_session::AnswerError;
 use std::alloc::{AllocError, AllocFailed};
@@ -24,7 +24,7 @@ pub enum LineFault {
 }
 
 impl From<AnswerError> for LineFault {
-    ghost use Rattle.hex_session.specs.Faults.{IsWriteFault};
+    ghost use Rattle.local_directory.specs.Faults.{IsWriteFault};
 
     ghost from_gives = { λ _ fault. IsWriteFault fault };
 

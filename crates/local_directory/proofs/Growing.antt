@@ -6,10 +6,10 @@ use Rattle.std.specs.Io.KnownBytes.{Appends}
 use Rattle.ldap_session.specs.ldap_msg.Messages.{MessageValue}
 use Rattle.ldap_session.specs.ldap_msg.Written.{message_bytes}
 use Rattle.ldap_session.specs.Octets.{joined}
-use Rattle.hex_session.specs.Lines.{hex_line, message_lines}
-use Rattle.hex_session.specs.private.Lines.{hex_lines}
-use Rattle.hex_session.specs.private.Faults.{IsCutOff}
-use Rattle.hex_session.specs.declared.fault.LineFault.{LineFault}
+use Rattle.local_directory.specs.Lines.{hex_line, message_lines}
+use Rattle.local_directory.specs.private.Lines.{hex_lines}
+use Rattle.local_directory.specs.private.Faults.{IsCutOff}
+use Rattle.local_directory.specs.declared.line_fault.LineFault.{LineFault}
 
 pub append-nil : {A : Type 0} (xs : List A) → xs ++ [] ≡ xs
 append-nil [] = refl

@@ -1,8 +1,8 @@
 use Rattle.std.proofs.Common.{◌≡◌, drop, take}
 use Rattle.std.specs.Io.KnownBytes.{Appends}
 use Rattle.ldap_session.specs.Octets.{joined}
-use Rattle.hex_session.specs.private.Lines.{hex_lines}
-use Rattle.hex_session.proofs.lines.write_lines.Given as goal
+use Rattle.local_directory.specs.private.Lines.{hex_lines}
+use Rattle.local_directory.proofs.lines.write_lines.Given as goal
 
 -- the lines of the responses so far are written, and the octets of the others are left
 abbrev pub invariant-loop-length : goal.invariant-loop-length

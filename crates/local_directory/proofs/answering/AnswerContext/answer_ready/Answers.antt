@@ -2,8 +2,8 @@ use Rattle.ldap_session.specs.session_handler.View.{config_view}
 use Rattle.ldap_session.specs.session_handler.declared.answered.Next.TheVariants.{GoesOn, Unbound, Disconnected}
 use Rattle.ldap_session.specs.View.{session_view}
 use Rattle.ldap_session.proofs.Progressed.{goes_apart, goes_apart_too}
-use Rattle.hex_session.proofs.Worked.{answered_some, put_as, more_answered, last_answered, not_put, not_answered}
-use Rattle.hex_session.proofs.answering.AnswerContext.answer_ready.Goals as goal
+use Rattle.local_directory.proofs.Worked.{answered_some, put_as, more_answered, last_answered, not_put, not_answered}
+use Rattle.local_directory.proofs.answering.AnswerContext.answer_ready.Goals as goal
 
 pub returns-in-Ok-Unbound-clause-ok : goal.returns-in-Ok-Unbound-clause-ok
 returns-in-Ok-Unbound-clause-ok g c =

@@ -20,14 +20,14 @@ use Rattle.ldap_session.proofs.Progressed.{reached_more, ends_with, ends_here, g
 use Rattle.ldap_session.proofs.Written.{whole_front}
 use Rattle.ldap_session.proofs.Worked.{stopped_by, front_of, no_front}
 use Rattle.ldap_session.proofs.Served.{HasTaken, piece_reached}
-use Rattle.hex_session.specs.Lines.{message_lines}
-use Rattle.hex_session.specs.private.Lines.{hex_lines}
-use Rattle.hex_session.specs.Faults.{IsWriteFault, end_of}
-use Rattle.hex_session.specs.private.Faults.{IsCutOff}
-use Rattle.hex_session.specs.private.Answered.{ComesTo, HasPut, HasWorked, HasFailed, HasFlushed, HasNotFlushed, HasFed, HasFailedAt}
-use Rattle.hex_session.specs.declared.fault.LineFault.{LineFault}
-use Rattle.hex_session.specs.declared.fault.LineFault.TheVariants.{BadHexLine, CannotRead, CannotWrite, TooLong, NoMemory as NoMemoryFault}
-use Rattle.hex_session.proofs.Growing.{messages_append, written_lines}
+use Rattle.local_directory.specs.Lines.{message_lines}
+use Rattle.local_directory.specs.private.Lines.{hex_lines}
+use Rattle.local_directory.specs.Faults.{IsWriteFault, end_of}
+use Rattle.local_directory.specs.private.Faults.{IsCutOff}
+use Rattle.local_directory.specs.private.Answered.{ComesTo, HasPut, HasWorked, HasFailed, HasFlushed, HasNotFlushed, HasFed, HasFailedAt}
+use Rattle.local_directory.specs.declared.line_fault.LineFault.{LineFault}
+use Rattle.local_directory.specs.declared.line_fault.LineFault.TheVariants.{BadHexLine, CannotRead, CannotWrite, TooLong, NoMemory as NoMemoryFault}
+use Rattle.local_directory.proofs.Growing.{messages_append, written_lines}
 
 -- a session that has answered some messages, and written so many lines for them
 pub record SoFar {D T : Type 0} (allows : D → Exchange T → D → Type 0) (c : ConfigValue) (old now : D)

@@ -1,6 +1,6 @@
 use Rattle.std.proofs.Common.{refl, ◌∙◌}
-use Rattle.hex_session.proofs.Growing.{next_row, line_done, line_cut}
-use Rattle.hex_session.proofs.lines.write_lines.Goals as goal
+use Rattle.local_directory.proofs.Growing.{next_row, line_done, line_cut}
+use Rattle.local_directory.proofs.lines.write_lines.Goals as goal
 
 pub split_at-requires : goal.split_at-requires
 split_at-requires g c =

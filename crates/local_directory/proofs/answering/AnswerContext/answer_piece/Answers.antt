@@ -1,7 +1,7 @@
 use Rattle.ldap_session.specs.session_handler.View.{config_view}
 use Rattle.ldap_session.specs.View.{session_view}
-use Rattle.hex_session.proofs.Worked.{fed_if, not_flushed_if, fed_failed, not_fed}
-use Rattle.hex_session.proofs.answering.AnswerContext.answer_piece.Goals as goal
+use Rattle.local_directory.proofs.Worked.{fed_if, not_flushed_if, fed_failed, not_fed}
+use Rattle.local_directory.proofs.answering.AnswerContext.answer_piece.Goals as goal
 
 pub returns-in-Ok-answer_ready-clause-ok : goal.returns-in-Ok-answer_ready-clause-ok
 returns-in-Ok-answer_ready-clause-ok g c =

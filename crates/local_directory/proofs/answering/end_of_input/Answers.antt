@@ -3,7 +3,7 @@ use Rattle.ldap_session.specs.View.{SessionValue, session_view}
 use Rattle.ldap_session.specs.Progress.{IsAtLast}
 use Rattle.ldap_session.specs.declared.end.SessionEnd.{SessionEnd}
 use Rattle.ldap_session.specs.declared.end.SessionEnd.TheVariants.{EndOfInput, Truncated}
-use Rattle.hex_session.proofs.answering.end_of_input.Goals as goal
+use Rattle.local_directory.proofs.answering.end_of_input.Goals as goal
 
 -- an end that is not between two messages is inside one
 inside : (s : SessionValue) (end : SessionEnd) → (end ≡ EndOfInput → ⊥) → IsAtLast s end → IsAtLast s Truncated

@@ -1,7 +1,7 @@
 use Rattle.ldap_session.specs.session_handler.View.{config_view}
 use Rattle.ldap_session.specs.View.{session_view}
-use Rattle.hex_session.proofs.Reading.{LinesSoFar}
-use Rattle.hex_session.proofs.answering.answer_lines.Given as goal
+use Rattle.local_directory.proofs.Reading.{LinesSoFar}
+use Rattle.local_directory.proofs.answering.answer_lines.Given as goal
 
 -- the lines so far are answered
 abbrev pub invariant-loop-number : goal.invariant-loop-number

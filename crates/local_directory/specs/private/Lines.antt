@@ -2,9 +2,9 @@
 -- What public contracts say is in specs/Lines.
 use Rattle.std.specs.Prelude.{◌≡◌, ℕ, List, [], ◌∷◌, ◌++◌, true, false, Ok, Option, Some}
 use Rattle.hex.specs.Hex.{decode_of}
-use Rattle.hex_session.specs.declared.line.Line.{Line}
-use Rattle.hex_session.specs.declared.line.Line.TheVariants.{End, Blank, Piece}
-use Rattle.hex_session.specs.Lines.{first_line, after_line, is_empty, hex_line}
+use Rattle.local_directory.specs.declared.line.Line.{Line}
+use Rattle.local_directory.specs.declared.line.Line.TheVariants.{End, Blank, Piece}
+use Rattle.local_directory.specs.Lines.{first_line, after_line, is_empty, hex_line}
 
 -- what an input begins with, and what is left of it: its end, an empty line, or a line that is a piece of a stream in
 -- hex

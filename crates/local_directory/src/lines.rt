@@ -2,14 +2,14 @@
 ghost use Rattle.std.specs.Prelude.{◌≡◌, option_map, string_bytes, IfOk, IfErr, OnOk, IfSome};
 ghost use Rattle.std.specs.Io.KnownBytes.{Appends};
 ghost use Rattle.std.specs.Io.BufRead.{strip_last};
-ghost use Rattle.hex_session.specs.Lines.{hex_line, IsNextLine};
-ghost use Rattle.hex_session.specs.private.Lines.{hex_lines, IsLineOf, BeginsWith};
-ghost use Rattle.hex_session.specs.Faults.{IsReadFault};
-ghost use Rattle.hex_session.specs.private.Faults.{IsLineFault, IsFaultOf, IsCutOff};
-ghost use Rattle.hex_session.specs.declared.fault.LineFault.TheVariants.{NoMemory};
+ghost use Rattle.local_directory.specs.Lines.{hex_line, IsNextLine};
+ghost use Rattle.local_directory.specs.private.Lines.{hex_lines, IsLineOf, BeginsWith};
+ghost use Rattle.local_directory.specs.Faults.{IsReadFault};
+ghost use Rattle.local_directory.specs.private.Faults.{IsLineFault, IsFaultOf, IsCutOff};
+ghost use Rattle.local_directory.specs.declared.line_fault.LineFault.TheVariants.{NoMemory};
 
-use crate::fault::LineFault;
 use crate::line::Line;
+use crate::line_fault::LineFault;
 use ldap_session::{Responses, write_octets};
 use std::alloc::Global;
 use std::io::{BufRead, ErrorKind, Write};

@@ -2,10 +2,10 @@ use Rattle.std.proofs.Common.{refl}
 use Rattle.std.proofs.lemmas.Result.{err_from_is_err_and}
 use Rattle.ldap_session.specs.session_handler.View.{config_view}
 use Rattle.ldap_session.specs.View.{session_view}
-use Rattle.hex_session.specs.declared.answering.Flow.TheVariants.{Goes, Ends}
-use Rattle.hex_session.specs.declared.fault.LineFault.TheVariants.{CannotRead}
-use Rattle.hex_session.proofs.Reading.{begun, takes_as, line_taken, line_ends, line_fails_as, answer_fails, unread}
-use Rattle.hex_session.proofs.answering.answer_lines.Goals as goal
+use Rattle.local_directory.specs.declared.answering.Flow.TheVariants.{Goes, Ends}
+use Rattle.local_directory.specs.declared.line_fault.LineFault.TheVariants.{CannotRead}
+use Rattle.local_directory.proofs.Reading.{begun, takes_as, line_taken, line_ends, line_fails_as, answer_fails, unread}
+use Rattle.local_directory.proofs.answering.answer_lines.Goals as goal
 
 pub loop-number-init : goal.loop-number-init
 loop-number-init g c =

@@ -12,16 +12,16 @@ use Rattle.ldap_session.specs.Progress.{Reached, IsAtLast}
 use Rattle.ldap_session.specs.Serving.{IsCaughtUp, Ends}
 use Rattle.ldap_session.specs.declared.end.SessionEnd.{SessionEnd}
 use Rattle.ldap_session.specs.declared.end.SessionEnd.TheVariants.{Unbound, EndOfInput, Truncated, Disconnected, ReadFailed, WriteFailed, NoMemory}
-use Rattle.hex_session.specs.Lines.{message_lines}
-use Rattle.hex_session.specs.private.Lines.{hex_lines}
-use Rattle.hex_session.specs.Faults.{IsWriteFault, end_of}
-use Rattle.hex_session.specs.declared.line.Line.{Line}
-use Rattle.hex_session.specs.declared.line.Line.TheVariants.{End, Blank, Piece}
-use Rattle.hex_session.specs.declared.answering.Flow.{Flow}
-use Rattle.hex_session.specs.declared.answering.Flow.TheVariants.{Goes, Ends as EndsWith}
-use Rattle.hex_session.specs.declared.fault.LineFault.{LineFault}
-use Rattle.hex_session.specs.declared.fault.LineFault.TheVariants.{CannotWrite, NoMemory as NoMemoryFault}
-use Rattle.hex_session.specs.Answered.{IsProperEnd}
+use Rattle.local_directory.specs.Lines.{message_lines}
+use Rattle.local_directory.specs.private.Lines.{hex_lines}
+use Rattle.local_directory.specs.Faults.{IsWriteFault, end_of}
+use Rattle.local_directory.specs.declared.line.Line.{Line}
+use Rattle.local_directory.specs.declared.line.Line.TheVariants.{End, Blank, Piece}
+use Rattle.local_directory.specs.declared.answering.Flow.{Flow}
+use Rattle.local_directory.specs.declared.answering.Flow.TheVariants.{Goes, Ends as EndsWith}
+use Rattle.local_directory.specs.declared.line_fault.LineFault.{LineFault}
+use Rattle.local_directory.specs.declared.line_fault.LineFault.TheVariants.{CannotWrite, NoMemory as NoMemoryFault}
+use Rattle.local_directory.specs.Answered.{IsProperEnd}
 
 -- what a session comes to: it is caught up and goes on, or it has ended
 abbrev pub ComesTo : {D T : Type 0} → (D → Exchange T → D → Type 0) → ConfigValue → D → D → SessionValue → List ℕ →

@@ -1,8 +1,8 @@
 use Rattle.std.proofs.Common.{length}
 use Rattle.ldap_session.specs.session_handler.View.{config_view}
 use Rattle.ldap_session.specs.View.{session_view}
-use Rattle.hex_session.proofs.Worked.{SoFar}
-use Rattle.hex_session.proofs.answering.AnswerContext.answer_ready.Given as goal
+use Rattle.local_directory.proofs.Worked.{SoFar}
+use Rattle.local_directory.proofs.answering.AnswerContext.answer_ready.Given as goal
 
 -- the messages so far are answered
 abbrev pub invariant-loop-answered : goal.invariant-loop-answered
