@@ -1,14 +1,14 @@
 -- Of any majority that takes part one has all that is committed.
-use Rattle.std.proofs.Common.{◌≡◌, ℕ, suc, ◌/◌, ◌<◌, ◌≤◌, ◌==◌, Bool, true, false, ◌||◌, ◌⊎◌, inl, inr, List, [], length, take, Some, refl, sym, subst, arith, eqb-true, leb-true, mod-lt, true≢false}
+use Rattle.std.proofs.Common.{◌≡◌, ℕ, ◌/◌, ◌<◌, ◌==◌, Bool, true, false, ◌||◌, ◌⊎◌, inl, inr, List, [], length, take, sym, subst, arith, eqb-true, leb-true, mod-lt, true≢false}
 use Rattle.vr_state.proofs.Laws.{quorums, count_some, either_true, prefix_nil, prefix_trans, prefix_take, prefix_shorter, take_prefix}
 use Rattle.vr_state.specs.Lists.{IsPrefix, In}
 use Rattle.vr_state.specs.Outcome.{indices, count}
-use Rattle.vr_state.specs.State.{State, primary, is_recovering}
+use Rattle.vr_state.specs.State.{primary, is_recovering}
 use Rattle.vr_state.specs.Words.{LogEntry}
 use Rattle.vr_state.specs.declared.words.Status.{Status}
 use Rattle.vr_state.specs.declared.words.Status.TheVariants.{Normal, ViewChange, Recovering}
 use Rattle.vr_world.proofs.Agreement.{longest_is, IsEmptyOrChosen}
-use Rattle.vr_world.proofs.Invariant.{Given, Owes, Below, ActiveFact, StateFact, UpFact, Holds, all_of}
+use Rattle.vr_world.proofs.Invariant.{Given, Owes, Below, ActiveFact, StateFact, Holds, all_of}
 use Rattle.vr_world.proofs.Listed.{listed, listed_committed}
 use Rattle.vr_world.proofs.NormalEvents.{up_of}
 use Rattle.vr_world.proofs.Resumptions.{there_up}
@@ -16,7 +16,7 @@ use Rattle.vr_world.proofs.Safety.{begins_with, owes_low}
 use Rattle.vr_world.proofs.Said.{chosen_fact, start_log_within}
 use Rattle.vr_world.proofs.Theorems.{after_holds}
 use Rattle.vr_world.proofs.ViewList.{committed_is}
-use Rattle.vr_world.specs.Committed.{has_said, is_chosen, start_log, committed}
+use Rattle.vr_world.specs.Committed.{has_said, is_chosen}
 use Rattle.vr_world.specs.Law.{IsSize, TakesPart, IsHeld, MajoritiesHold}
 use Rattle.vr_world.specs.World.{World, after}
 

@@ -1,5 +1,5 @@
 -- A replica goes on from its journal as it was.
-use Rattle.std.proofs.Common.{◌≡◌, ◌≢◌, ℕ, ◌<◌, ◌==◌, nat_lt, Bool, true, false, cond, List, [], ◌∷◌, ◌++◌, Option, Some, None, refl, sym, ap, ap₂, ◌∙◌, subst, eq-eqb, eqb-true, lt-ltb, true≢false}
+use Rattle.std.proofs.Common.{◌≡◌, ◌≢◌, ℕ, ◌<◌, nat_lt, false, cond, List, [], ◌∷◌, ◌++◌, Option, Some, None, refl, sym, ap, ◌∙◌, subst, lt-ltb}
 use Rattle.vr_state.proofs.Laws.{by_test}
 use Rattle.vr_state.specs.Outcome.{Outcome, idle, to_all}
 use Rattle.vr_state.specs.State.{State, is_recovering, recovering, resuming}
@@ -8,7 +8,7 @@ use Rattle.vr_state.specs.ViewChange.{own_change}
 use Rattle.vr_state.specs.declared.event.Event.TheVariants as event
 use Rattle.vr_state.specs.declared.message.Change.{Change}
 use Rattle.vr_state.specs.declared.message.PeerMessage.TheVariants as message
-use Rattle.vr_world.proofs.Invariant.{Holds, all_of}
+use Rattle.vr_world.proofs.Invariant.{all_of}
 use Rattle.vr_world.proofs.Moves.{put_same, put_other}
 use Rattle.vr_world.proofs.NormalEvents.{up_of}
 use Rattle.vr_world.proofs.Resumptions.{there_up}

@@ -8,7 +8,7 @@ use Rattle.vr_state.specs.ViewChange.{own_change}
 use Rattle.vr_state.specs.Words.{LogEntry}
 use Rattle.vr_world.specs.Committed.{IsChosen, committed}
 use Rattle.vr_world.specs.World.{World, ReplyBy, WorldEvent, happens, after}
-use Rattle.vr_world.specs.declared.events.WorldEvent.TheVariants.{Crash, Recover, Resume}
+use Rattle.vr_world.specs.declared.events.WorldEvent.TheVariants.{Request, Crash, Recover, Resume}
 
 -- An odd number of replicas, three at least: 2f + 1.
 pub record IsSize (n : ℕ) : Type 0 where
@@ -45,6 +45,17 @@ CommitsAreHeld P = (n : ℕ) → IsSize n → (es : List (WorldEvent P)) (i : �
 -- Each client's request numbers rise along what is committed.
 abbrev pub NumbersRise : Type 0 → Type 0
 NumbersRise P = (n : ℕ) → IsSize n → (es : List (WorldEvent P)) → Rising (committed n (after n es).messages)
+
+-- The record was asked for: one of these events is the request for it, at one of n replicas.
+pub record WasAsked {P : Type 0} (n : ℕ) (es : List (WorldEvent P)) (e : LogEntry P) : Type 0 where
+  pub replica : ℕ
+  pub there : replica < n
+  pub asked : In (Request replica e) es
+
+-- Each committed record was asked for by then: its client, its number and its payload are those of a request.
+abbrev pub CommittedWasAsked : Type 0 → Type 0
+CommittedWasAsked P = (n : ℕ) → IsSize n → (es : List (WorldEvent P)) (e : LogEntry P) →
+    In e (committed n (after n es).messages) → WasAsked n es e
 
 -- Each reply names the committed record at its place.
 abbrev pub RepliesAreCommitted : Type 0 → Type 0

@@ -11,7 +11,7 @@
 #![tactic(auto)]
 
 ghost use Rattle.vr_world.specs.Law.{ChosenAgree, CommittedIsLongest, CommittedGrows, ReplicasAgree, CommitsAreHeld};
-ghost use Rattle.vr_world.specs.Law.{NumbersRise, RepliesAreCommitted, RepliesAreExecuted, StepsKeep, MajoritiesHold, JournalsKeep};
+ghost use Rattle.vr_world.specs.Law.{NumbersRise, CommittedWasAsked, RepliesAreCommitted, RepliesAreExecuted, StepsKeep, MajoritiesHold, JournalsKeep};
 
 mod acting;
 mod beginnings;
@@ -47,6 +47,8 @@ pub fn one_committed_list<P>()
     ensures held { CommitsAreHeld P }
     // Each client's request numbers rise along it, so that each request stands there once at most.
     ensures rising { NumbersRise P }
+    // Each record of it was asked for: it is the request of an event that happened by then.
+    ensures asked { CommittedWasAsked P }
     // Each reply names the record at its place in it.
     ensures replies { RepliesAreCommitted P }
     // A reply that is given names a record that its replica has committed by then.
