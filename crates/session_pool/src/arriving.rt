@@ -70,8 +70,8 @@ impl<'a, R: Wait + Clock, T: SessionObserver> SessionPool<'a, R, T> {
         Ok(())
     }
 
-    /// Takes connections and numbers them from 1, until the door is closed. Where none can be taken for want of a descriptor, the session that
-    /// was silent for longest gives its own up.
+    /// Takes connections and numbers them from 1, until the door is closed. Where none can be taken for want of a
+    /// descriptor, the session that was silent for longest gives its own up.
     pub fn take_all(&self, listener: &TcpListener) {
         self.teller.begins();
         for number in 1..u64::MAX {

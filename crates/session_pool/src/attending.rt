@@ -11,7 +11,7 @@ ghost use Rattle.session_pool.specs.Sittings.{Sitting, Attends, HasAttendedSome}
 use crate::pool::SessionPool;
 use crate::tells::SessionObserver;
 use client_link::{Config, Directory, Due};
-use session_table::{Destination, PooledSession, ReadOutcome, Then, Turn, destination};
+use session_table::{Destination, PooledSession, ReadOutcome, Then, Turn, destination_of};
 use session_turns::{After, Queue, Seen, follows};
 use std::sync::Wait;
 use std::sync::atomic::Ordering;
@@ -29,8 +29,8 @@ const SITTINGS: u32 = 256;
 /// How many octets may be unsent before no further message is answered.
 const UNSENT: usize = 65_536;
 
-/// Within how many microseconds a message has to come after its session was parked, or after a thread began to wait for it, so that a thread
-/// waits for the next one.
+/// Within how many microseconds a message has to come after its session was parked, or after a thread began to wait for
+/// it, so that a thread waits for the next one.
 const SOON_PARKED: u64 = 500;
 
 const SOON_HEARD: u64 = 1_000;
@@ -47,7 +47,8 @@ struct Stay {
     turns: u32,
     /// Whether it ends with the message that was answered last, since others are ready.
     is_over: bool,
-    /// For how many microseconds the thread has done nothing for the session: it waited for its next message, or looked at the sockets of others.
+    /// For how many microseconds the thread has done nothing for the session: it waited for its next message, or looked
+    /// at the sockets of others.
     apart: u64,
 }
 
@@ -113,8 +114,8 @@ impl<'a, R: Wait + Clock, T: SessionObserver> SessionPool<'a, R, T> {
         }
     }
 
-    /// Answers the next message, unless the stay is over, it may be an update, it is a bind that is to wait, or the client has to take first what it
-    /// was answered. Whether it did.
+    /// Answers the next message, unless the stay is over, it may be an update, it is a bind that is to wait, or the
+    /// client has to take first what it was answered. Whether it did.
     fn answer_next<D: Directory>(
         &self,
         pooled: &mut PooledSession,
@@ -123,7 +124,8 @@ impl<'a, R: Wait + Clock, T: SessionObserver> SessionPool<'a, R, T> {
         stay: &mut Stay,
     ) -> bool
         ensures same { IsSame pooled.old pooled.new }
-        ensures answered { OnTrue result (AnswersNext D.allows (config_view config.now) (talk pooled.old) (talk pooled.new)
+        ensures answered { OnTrue result (AnswersNext D.allows (config_view config.now) (talk pooled.old)
+            (talk pooled.new)
             directory.old directory.new) }
         ensures left { OnFalse result ((talk pooled.new ≡ talk pooled.old) × (directory.new ≡ directory.old)) }
         ensures delayed { IsDelayed pooled.old → IsFalse result }
@@ -142,7 +144,8 @@ impl<'a, R: Wait + Clock, T: SessionObserver> SessionPool<'a, R, T> {
         true
     }
 
-    /// Answers whole messages that are no updates, at most 16, while the stay lasts and the client takes what it is answered.
+    /// Answers whole messages that are no updates, at most 16, while the stay lasts and the client takes what it is
+    /// answered.
     fn answer_some<D: Directory>(
         &self,
         pooled: &mut PooledSession,
@@ -150,7 +153,8 @@ impl<'a, R: Wait + Clock, T: SessionObserver> SessionPool<'a, R, T> {
         stay: &mut Stay,
     )
         ensures same { IsSame pooled.old pooled.new }
-        ensures answers { AnswersSome D.allows (config_of (config_view self.now.config) pooled.old.number) (talk pooled.old)
+        ensures answers { AnswersSome D.allows (config_of (config_view self.now.config) pooled.old.number)
+            (talk pooled.old)
             (talk pooled.new) directory.old directory.new 16 }
     {
         let config = Config {
@@ -180,8 +184,8 @@ impl<'a, R: Wait + Clock, T: SessionObserver> SessionPool<'a, R, T> {
         pooled.say(self.door.limits().write)
     }
 
-    /// Whether the thread may wait for the next message of its session: where that comes soon, a seat is left to lead, and, each 16th time,
-    /// no other session is ready and the door is open.
+    /// Whether the thread may wait for the next message of its session: where that comes soon, a seat is left to lead,
+    /// and, each 16th time, no other session is ready and the door is open.
     fn may_linger(&self, pooled: &PooledSession, stay: &mut Stay) -> bool {
         if !pooled.is_quick {
             return false;
@@ -240,7 +244,8 @@ impl<'a, R: Wait + Clock, T: SessionObserver> SessionPool<'a, R, T> {
         }
     }
 
-    /// Serves a session for as long as its messages come one soon after the other, 256 sittings at most, and a millisecond where others are ready.
+    /// Serves a session for as long as its messages come one soon after the other, 256 sittings at most, and a
+    /// millisecond where others are ready.
     fn attend<D: Directory>(
         &self,
         pooled: &mut PooledSession,
@@ -271,7 +276,7 @@ impl<'a, R: Wait + Clock, T: SessionObserver> SessionPool<'a, R, T> {
     /// Tells what has passed between a session and its client, and hands the session to where it belongs.
     pub fn dismiss(&self, mut pooled: PooledSession, then: Then) {
         self.teller.passed(pooled.take_traffic());
-        match destination(&pooled, then) {
+        match destination_of(&pooled, then) {
             Destination::Parks(queue) => self.park(pooled, queue),
             Destination::LinesUp(Turn::Seat) => self.queue(pooled),
             Destination::LinesUp(Turn::Update) => self.queue_update(pooled),

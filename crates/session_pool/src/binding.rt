@@ -12,7 +12,8 @@ use std::alloc::{AllocError, Global};
 use std::sync::Wait;
 use std::time::Clock;
 
-/// How many octets stand at the end of a bind's response from its code on (RFC 4511 4.2.2): the code, and two empty texts.
+/// How many octets stand at the end of a bind's response from its code on (RFC 4511 4.2.2): the code, and two empty
+/// texts.
 const FROM_CODE: usize = 5;
 
 /// The name in a bind, kept while the bind is answered.
@@ -54,7 +55,9 @@ impl<'a, R: Wait + Clock, T: SessionObserver> SessionPool<'a, R, T> {
             return false;
         }
         match name {
-            Ok(name) => self.teller.refused(pooled.number(), Ok(name.as_str()), code),
+            Ok(name) => self
+                .teller
+                .refused(pooled.number(), Ok(name.as_str()), code),
             Err(error) => self.teller.refused(pooled.number(), Err(error), code),
         }
         true
@@ -68,7 +71,8 @@ impl<'a, R: Wait + Clock, T: SessionObserver> SessionPool<'a, R, T> {
         directory: &mut D,
     )
         ensures same { IsSame pooled.old pooled.new }
-        ensures answers { Answers D.allows (config_view config.now) (talk pooled.old) (talk pooled.new) directory.old directory.new }
+        ensures answers { Answers D.allows (config_view config.now) (talk pooled.old) (talk pooled.new) directory.old
+            directory.new }
     {
         let name = kept(self.alloc, pooled.bind_next());
         let step = pooled.answer(self.alloc, config, directory);

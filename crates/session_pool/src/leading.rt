@@ -6,7 +6,7 @@ use client_link::SessionEnd;
 use mio::event::Event;
 use mio::unix::SourceFd;
 use mio::{Interest, Token};
-use session_table::{ClientState, Noted, PooledSession, Table, Turn, place_in, token_of};
+use session_table::{ClientState, NoteOutcome, PooledSession, Table, Turn, place_in, token_of};
 use session_turns::{Act, Call, Queue, Was};
 use std::sync::Wait;
 use std::sync::atomic::Ordering;
@@ -18,7 +18,8 @@ const LONGEST: u64 = 1_000;
 /// For how many milliseconds a bind waits, where others of its connection were refused.
 const DELAY: u64 = 1_000;
 
-/// After which part of the time that a client may let an answer wait its session is asked whether that is over: it is longer for what was taken.
+/// After which part of the time that a client may let an answer wait its session is asked whether that is over: it is
+/// longer for what was taken.
 const PART: u32 = 16;
 
 /// That part of a time.
@@ -50,8 +51,8 @@ fn state_told(event: &Event) -> Option<ClientState> {
 }
 
 impl<'a, R: Wait + Clock, T: SessionObserver> SessionPool<'a, R, T> {
-    /// Puts a session where it waits, and has it watched. The leader takes the same lock before it looks at what is ready. One whose message isn't
-    /// whole in time ends.
+    /// Puts a session where it waits, and has it watched. The leader takes the same lock before it looks at what is
+    /// ready. One whose message isn't whole in time ends.
     pub fn park(&self, mut pooled: PooledSession, queue: Queue) {
         let Ok(now) = Instant::now(self.rt) else {
             return self.end(pooled, SessionEnd::ReadFailed);
@@ -174,7 +175,8 @@ impl<'a, R: Wait + Clock, T: SessionObserver> SessionPool<'a, R, T> {
         self.work.notify_one();
     }
 
-    /// The session of a place no longer waits for its socket, which is ready, but for its turn. Whether one waited there.
+    /// The session of a place no longer waits for its socket, which is ready, but for its turn. Whether one waited
+    /// there.
     fn rouse(&self, table: &mut Table, place: usize, now: Instant) -> bool {
         let Some((fd, turn)) = table.rouse(place, now, self.micros_at(now)) else {
             return false;
@@ -205,9 +207,9 @@ impl<'a, R: Wait + Clock, T: SessionObserver> SessionPool<'a, R, T> {
         };
         let Token(token) = event.token();
         match table.note(self.alloc, token, state, now) {
-            Noted::Nothing => {}
-            Noted::Leaves(thread) => self.leave(thread),
-            Noted::Gives(less) => self.budget.post(less, 0),
+            NoteOutcome::Nothing => {}
+            NoteOutcome::Leaves(thread) => self.leave(thread),
+            NoteOutcome::Gives(less) => self.budget.post(less, 0),
         }
     }
 
@@ -238,8 +240,8 @@ impl<'a, R: Wait + Clock, T: SessionObserver> SessionPool<'a, R, T> {
         }
     }
 
-    /// Ends the sessions whose clients have let octets wait for too long. How long is too long, each session says for itself: it is asked again and
-    /// again, after a part of the limit.
+    /// Ends the sessions whose clients have let octets wait for too long. How long is too long, each session says for
+    /// itself: it is asked again and again, after a part of the limit.
     fn expire_unsent(&self, limit: Duration, now: Instant) {
         for _ in self.rt.forever() {
             let mut table = self.table.lock(self.rt);
@@ -266,10 +268,7 @@ impl<'a, R: Wait + Clock, T: SessionObserver> SessionPool<'a, R, T> {
     fn close_overdue(&self, now: Instant) {
         let limit = Duration::from_millis(FAREWELL);
         for _ in self.rt.forever() {
-            let overdue = self
-                .table
-                .lock(self.rt)
-                .overdue(Queue::Leaving, limit, now);
+            let overdue = self.table.lock(self.rt).overdue(Queue::Leaving, limit, now);
             match overdue {
                 Some(pooled) => self.close(pooled),
                 None => break,
@@ -292,10 +291,7 @@ impl<'a, R: Wait + Clock, T: SessionObserver> SessionPool<'a, R, T> {
     fn release_delayed(&self, now: Instant) {
         let limit = Duration::from_millis(DELAY);
         for _ in self.rt.forever() {
-            let overdue = self
-                .table
-                .lock(self.rt)
-                .overdue(Queue::Delayed, limit, now);
+            let overdue = self.table.lock(self.rt).overdue(Queue::Delayed, limit, now);
             match overdue {
                 Some(mut pooled) => {
                     pooled.allow_bind();
@@ -325,8 +321,8 @@ impl<'a, R: Wait + Clock, T: SessionObserver> SessionPool<'a, R, T> {
         let _ = self.registry.deregister(&mut SourceFd(&fd));
     }
 
-    /// How long the leader may wait: not at all where sessions are ready; else until one has waited for too long, but no longer than a second, or
-    /// than a limit.
+    /// How long the leader may wait: not at all where sessions are ready; else until one has waited for too long, but
+    /// no longer than a second, or than a limit.
     fn time_left(&self) -> Duration {
         let limits = self.door.limits();
         let most = Duration::from_millis(LONGEST)
@@ -339,7 +335,10 @@ impl<'a, R: Wait + Clock, T: SessionObserver> SessionPool<'a, R, T> {
         if table.ready() > 0 {
             return Duration::from_secs(0);
         }
-        let (farewell, delay) = (Duration::from_millis(FAREWELL), Duration::from_millis(DELAY));
+        let (farewell, delay) = (
+            Duration::from_millis(FAREWELL),
+            Duration::from_millis(DELAY),
+        );
         most.min(table.time_left(Queue::Inside, limits.message, now))
             .min(table.time_left(Queue::Unsent, part_of(limits.write), now))
             .min(table.time_left(Queue::Leaving, farewell, now))
@@ -362,7 +361,8 @@ impl<'a, R: Wait + Clock, T: SessionObserver> SessionPool<'a, R, T> {
         self.refuse_overdue(limits.write, now);
     }
 
-    /// Waits for sockets for so long, at most; queues sessions that are ready, and ends those that have waited for too long.
+    /// Waits for sockets for so long, at most; queues sessions that are ready, and ends those that have waited for too
+    /// long.
     fn poll_sockets(&self, limit: Duration) {
         let mut watch = self.watch.lock(self.rt);
         let Watch { poll, events } = &mut *watch;
@@ -437,8 +437,8 @@ impl<'a, R: Wait + Clock, T: SessionObserver> SessionPool<'a, R, T> {
         self.table.lock(self.rt).is_closed
     }
 
-    /// A session that a thread has taken, as it is to be served; none, where it was over before its turn. An update that has waited for too long is
-    /// answered here.
+    /// A session that a thread has taken, as it is to be served; none, where it was over before its turn. An update
+    /// that has waited for too long is answered here.
     fn ready_to_serve(&self, mut pooled: PooledSession) -> Option<PooledSession> {
         if let Some(end) = pooled.over() {
             self.end(pooled, end);
@@ -453,7 +453,8 @@ impl<'a, R: Wait + Clock, T: SessionObserver> SessionPool<'a, R, T> {
         Some(pooled)
     }
 
-    /// The next session that is ready; none, once the pool is closed. Of the seats that are free, one waits for all sessions.
+    /// The next session that is ready; none, once the pool is closed. Of the seats that are free, one waits for all
+    /// sessions.
     pub fn next(&self) -> Option<PooledSession> {
         let mut next = None;
         let mut was = Was::Serving;
@@ -477,8 +478,8 @@ impl<'a, R: Wait + Clock, T: SessionObserver> SessionPool<'a, R, T> {
         next
     }
 
-    /// The session whose update is to be made by this thread next; none, once the pool is closed. Since when its client sends no more is known to
-    /// those who watch the thread.
+    /// The session whose update is to be made by this thread next; none, once the pool is closed. Since when its client
+    /// sends no more is known to those who watch the thread.
     fn take_update(&self, thread: usize) -> Option<PooledSession> {
         let mut table = self.table.lock(self.rt);
         for _ in self.rt.forever() {
@@ -497,8 +498,8 @@ impl<'a, R: Wait + Clock, T: SessionObserver> SessionPool<'a, R, T> {
         Some(pooled)
     }
 
-    /// The next session whose next message may be an update, for this thread; none, once the pool is closed. One whose client was gone before is
-    /// ended.
+    /// The next session whose next message may be an update, for this thread; none, once the pool is closed. One whose
+    /// client was gone before is ended.
     pub fn next_update(&self, thread: usize) -> Option<PooledSession> {
         let limit = self.door.limits().message;
         let mut next = None;

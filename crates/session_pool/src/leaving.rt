@@ -1,5 +1,5 @@
-//! Closes the sockets of sessions that are over so that clients get all answers: the system resets a connection that is closed with unread
-//! input, and what is on its way is lost. No thread waits for that.
+//! Closes the sockets of sessions that are over so that clients get all answers: the system resets a connection that is
+//! closed with unread input, and what is on its way is lost. No thread waits for that.
 use crate::pool::SessionPool;
 use crate::tells::SessionObserver;
 use client_link::SessionEnd;
@@ -16,7 +16,8 @@ pub const FAREWELL: u64 = 1_000;
 /// How many octets are dropped at once, at most.
 const PIECE: usize = 8192;
 
-/// Whether the client of a session that ends so may still send, and what it has sent may be unread: none, some that has come, or what comes later.
+/// Whether the client of a session that ends so may still send, and what it has sent may be unread: none, some that has
+/// come, or what comes later.
 #[derive(Clone, Copy, Debug, PartialEq, Eq)]
 enum Unread {
     Nothing,
@@ -46,8 +47,8 @@ impl<'a, R: Wait + Clock, T: SessionObserver> SessionPool<'a, R, T> {
         self.teller.ended(number, end);
     }
 
-    /// A session is over that a thread has. Where its client may have sent more than was read, its socket is closed once the client has closed it
-    /// too, after a second at most.
+    /// A session is over that a thread has. Where its client may have sent more than was read, its socket is closed
+    /// once the client has closed it too, after a second at most.
     pub fn finish(&self, mut pooled: PooledSession, end: SessionEnd) {
         let unread = unread_at(end);
         let Ok(now) = Instant::now(self.rt) else {

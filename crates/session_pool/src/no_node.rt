@@ -1,4 +1,5 @@
-//! A directory that finds out where updates are made, and is asked nothing else: what an update is answered by that has waited for too long.
+//! A directory that finds out where updates are made, and is asked nothing else: what an update is answered by that has
+//! waited for too long.
 ghost use Rattle.session_pool.specs.Refusing.{finds_out};
 
 use client_link::{

@@ -1,4 +1,5 @@
-//! A directory that has no memory for a search: what one is answered by where clients hold nearly all the memory that they may.
+//! A directory that has no memory for a search: what one is answered by where clients hold nearly all the memory that
+//! they may.
 ghost use Rattle.session_pool.specs.Refusing.{has_no_memory};
 
 use client_link::{

@@ -1,8 +1,8 @@
 //! A pool: what its threads share.
 use client_link::{Config, Door};
 use mio::{Events, Poll, Registry, Token, Waker};
-use session_turns::Budget;
 use session_table::Table;
+use session_turns::Budget;
 use std::alloc::Global;
 use std::io;
 use std::net::Net;
@@ -61,8 +61,8 @@ pub struct SessionPool<'a, R, T> {
     pub lingering: AtomicUsize,
     /// How many seats may wait so: one is left to lead.
     pub most: usize,
-    /// Whether a seat waits for sockets or looks at them, and when one last looked, in microseconds since the pool began. Seats that answer read
-    /// this, and how many sessions are ready, without the table's lock.
+    /// Whether a seat waits for sockets or looks at them, and when one last looked, in microseconds since the pool
+    /// began. Seats that answer read this, and how many sessions are ready, without the table's lock.
     pub is_led: AtomicBool,
     pub looked: AtomicU64,
     pub start: Instant,

@@ -62,8 +62,9 @@ where
     updated
 }
 
-/// Serves the clients of a listener, until the door is closed: a thread for each directory of the first list, which reads, and one for each of
-/// the second, which updates and is told the thread's index. Want of memory is the only error.
+/// Serves the clients of a listener, until the door is closed: a thread for each directory of the first list, which
+/// reads, and one for each of the second, which updates and is told the thread's index. Want of memory is the only
+/// error.
 pub fn serve_sessions<R, T, D, U>(
     pool: &SessionPool<'_, R, T>,
     listener: &TcpListener,

@@ -17,7 +17,8 @@ pub enum Away {
 
 /// Who is told of sessions.
 pub trait SessionObserver {
-    /// A thread has begun that the pool can't do without: one that takes connections, one that reads, and one that updates.
+    /// A thread has begun that the pool can't do without: one that takes connections, one that reads, and one that
+    /// updates.
     fn begins(&self);
 
     /// A client was let in from this address, as the session of this number, whose end will be told.
@@ -29,8 +30,8 @@ pub trait SessionObserver {
     /// A session of this number was let go.
     fn let_go(&self, session: u64, why: Away);
 
-    /// A bind of a session of this number was refused with this result code. Its name is empty where it named nobody, and an error where there was no
-    /// memory to keep it.
+    /// A bind of a session of this number was refused with this result code. Its name is empty where it named nobody,
+    /// and an error where there was no memory to keep it.
     fn refused(&self, session: u64, name: Result<&str, AllocError>, code: u8);
 
     /// A bind was accepted.
@@ -39,6 +40,7 @@ pub trait SessionObserver {
     /// This has passed between a session and its client, beside what was told of it before.
     fn passed(&self, traffic: Traffic);
 
-    /// The client of an update that waits is gone: whoever waits for it is to look again. It is called under a lock, and waits for nobody.
+    /// The client of an update that waits is gone: whoever waits for it is to look again. It is called under a lock,
+    /// and waits for nobody.
     fn left(&self);
 }

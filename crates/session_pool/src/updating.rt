@@ -1,4 +1,5 @@
-//! Updates, in threads of their own, so that one that waits for other replicas holds up no read. What an update asks for is below.
+//! Updates, in threads of their own, so that one that waits for other replicas holds up no read. What an update asks
+//! for is below.
 ghost use Rattle.client_link.specs.session_handler.View.{config_view};
 ghost use Rattle.client_link.specs.Served.{config_of};
 ghost use Rattle.session_table.specs.Attending.{talk, IsSame};
@@ -24,7 +25,8 @@ impl<'a, R: Wait + Clock, T: SessionObserver> SessionPool<'a, R, T> {
     /// Answers the update of a session by what one is answered that finds no primary: it has waited for too long.
     pub fn refuse_update(&self, pooled: &mut PooledSession)
         ensures same { IsSame pooled.old pooled.new }
-        ensures refused { IsRefused (config_of (config_view self.now.config) pooled.old.number) (talk pooled.old) (talk pooled.new) }
+        ensures refused { IsRefused (config_of (config_view self.now.config) pooled.old.number) (talk pooled.old)
+            (talk pooled.new) }
     {
         let config = Config {
             session: pooled.number(),
@@ -48,7 +50,8 @@ impl<'a, R: Wait + Clock, T: SessionObserver> SessionPool<'a, R, T> {
         self.unwatch(thread, pooled);
     }
 
-    /// Serves the updates of sessions by this directory, in the thread of this index, one message a time, until the pool is closed.
+    /// Serves the updates of sessions by this directory, in the thread of this index, one message a time, until the
+    /// pool is closed.
     pub fn update<D: Directory>(&self, thread: usize, mut directory: D) -> D
         ensures { HasUpdatedSome D.allows (config_view self.now.config) directory result }
     {

@@ -6,8 +6,8 @@ use Rattle.ldap_session.specs.declared.end.SessionEnd.TheVariants.{WriteFailed}
 use Rattle.session_turns.specs.declared.spot.Queue.TheVariants.{Silent, Inside, Unsent, Leaving, Delayed}
 use Rattle.session_table.specs.Attending.{IsAllSaid}
 use Rattle.session_table.specs.Waiting.{WaitsFor}
-use Rattle.session_table.specs.declared.destination.Destination.{Destination}
-use Rattle.session_table.specs.declared.destination.Destination.TheVariants.{Parks, LinesUp, Ends}
+use Rattle.session_table.specs.declared.laying.Destination.{Destination}
+use Rattle.session_table.specs.declared.laying.Destination.TheVariants.{Parks, LinesUp, Ends}
 use Rattle.session_table.specs.declared.place_state.Turn.TheVariants.{Seat, Update}
 
 -- A session waits for its client's octets where all is said and no whole message is left over, in the queue of those

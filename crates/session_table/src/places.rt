@@ -173,7 +173,8 @@ impl Places {
         }
     }
 
-    /// Puts a session at its place, where it waits for its client; it comes back where there is no memory, or where the place isn't its own.
+    /// Puts a session at its place, where it waits for its client; it comes back where there is no memory, or where the
+    /// place isn't its own.
     pub fn park(&mut self, pooled: PooledSession, queue: Queue) -> Result<(), PooledSession>
         ensures ok { OnOk result (Parks (tabled self.old) pooled queue (tabled self.new)) }
         ensures err { IfErr result (λ back. (back ≡ pooled) × (tabled self.new ≡ tabled self.old)) }
@@ -192,8 +193,8 @@ impl Places {
         }
     }
 
-    /// Puts a session at its place, where it waits for its turn: for a seat behind all others of its class at this moment, in microseconds. It comes
-    /// back where the place isn't its own.
+    /// Puts a session at its place, where it waits for its turn: for a seat behind all others of its class at this
+    /// moment, in microseconds. It comes back where the place isn't its own.
     pub fn line_up(
         &mut self,
         pooled: PooledSession,
@@ -303,8 +304,8 @@ impl Places {
         }
     }
 
-    /// The session of a place that waits for its turn is told this, and waits on. How many octets are posted of it no more; none, where no session
-    /// waits for its turn there.
+    /// The session of a place that waits for its turn is told this, and waits on. How many octets are posted of it no
+    /// more; none, where no session waits for its turn there.
     pub fn notify(&mut self, alloc: Global, place: usize, notice: Notice) -> Option<u64>
         ensures some { IfSome result (λ _. Notes (tabled self.old) place notice (tabled self.new)) }
         ensures none { IfNone result (WaitsItsTurn (tabled self.old) place → ⊥) }
@@ -342,8 +343,9 @@ impl Places {
         self.sessions[place].as_ref()
     }
 
-    /// The session of a place that waits for its client waits for its turn, for a seat behind all others of its class; its socket, and for what it
-    /// waits. The moment comes as the system and as the pool tell it, in microseconds. None, where no session waits for its client there.
+    /// The session of a place that waits for its client waits for its turn, for a seat behind all others of its class;
+    /// its socket, and for what it waits. The moment comes as the system and as the pool tell it, in microseconds.
+    /// None, where no session waits for its client there.
     pub fn rouse(&mut self, place: usize, now: Instant, micros: u64) -> Option<(RawFd, Turn)>
         ensures some { IfSome result (λ r. Rouses (tabled self.old) place r.1 micros (tabled self.new)) }
         ensures none { IfNone result (IsAt (tabled self.old) place PlaceState.Waits → ⊥) }

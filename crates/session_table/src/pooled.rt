@@ -25,8 +25,8 @@ use std::net::{Shutdown, TcpStream};
 use std::os::fd::{AsRawFd, RawFd};
 use std::time::{Duration, Instant};
 
-/// How long a read or a write of a socket waits, in milliseconds: for so long a thread stays with a session whose next message may come at
-/// once.
+/// How long a read or a write of a socket waits, in milliseconds: for so long a thread stays with a session whose next
+/// message may come at once.
 const LINGER: u64 = 5;
 
 /// From how many octets on, beyond what is posted, room is asked for before octets are kept and messages are decoded.
@@ -136,8 +136,8 @@ fn is_pause(kind: ErrorKind) -> bool {
     kind == ErrorKind::WouldBlock || kind == ErrorKind::TimedOut
 }
 
-/// Whether there is room for what a conversation keeps once it has heard so many octets that were read, with the messages that become whole by them.
-/// It is asked for where that is much more than is posted.
+/// Whether there is room for what a conversation keeps once it has heard so many octets that were read, with the
+/// messages that become whole by them. It is asked for where that is much more than is posted.
 fn has_room<M: MakesRoom>(
     conversation: &Conversation,
     count: usize,
@@ -391,7 +391,8 @@ impl PooledSession {
         self.debt.class(now)
     }
 
-    /// Reads once. What is heard is put into the conversation. Where that makes a message whole, the next one has not begun.
+    /// Reads once. What is heard is put into the conversation. Where that makes a message whole, the next one has not
+    /// begun.
     pub fn hear<M: MakesRoom>(&mut self, buffer: &mut [u8], room: &M) -> ReadOutcome
         ensures same { IsSame self.old self.new }
         ensures heard { HasHeard None None (talk self.old) buffer.new (talk self.new) result }
@@ -453,7 +454,8 @@ impl PooledSession {
         }
     }
 
-    /// It waits for its client no more, but for its turn. Where it waited for its client to take an answer, that time counts.
+    /// It waits for its client no more, but for its turn. Where it waited for its client to take an answer, that time
+    /// counts.
     pub fn rouse(&mut self, now: Instant)
         ensures waited { HasWaited self.old self.new }
         ensures counted { Counts self.old now self.new }
@@ -466,7 +468,8 @@ impl PooledSession {
         self.closed = None;
     }
 
-    /// It is over: its client is told that nothing more comes, its socket doesn't wait, and what its conversation kept is given back.
+    /// It is over: its client is told that nothing more comes, its socket doesn't wait, and what its conversation kept
+    /// is given back.
     pub fn retire(&mut self, alloc: Global, now: Instant) -> io::Result<()>
         ensures same { IsSame self.old self.new }
     {
@@ -519,7 +522,8 @@ impl PooledSession {
         Ok(())
     }
 
-    /// While octets wait for the client, its socket doesn't wait. Once it has all of them, the next ones have all the time again.
+    /// While octets wait for the client, its socket doesn't wait. Once it has all of them, the next ones have all the
+    /// time again.
     fn settle(&mut self) -> io::Result<()>
         ensures same { IsSame self.old self.new }
         ensures kept { talk self.new ≡ talk self.old }
@@ -626,7 +630,8 @@ impl PooledSession {
     pub fn note_bind(&mut self, is_refused: bool)
         ensures same { IsSame self.old self.new }
         ensures kept { talk self.new ≡ talk self.old }
-        ensures counted { self.new.refusals ≡ cond is_refused (min (self.old.refusals + 1) 4294967295) self.old.refusals }
+        ensures counted { self.new.refusals ≡ cond is_refused (min (self.old.refusals + 1) 4294967295)
+            self.old.refusals }
         ensures again { self.new.has_waited ≡ false }
     {
         self.has_waited = false;
@@ -718,8 +723,8 @@ impl PooledSession {
         self.posted = 0;
     }
 
-    /// It is told this while it waits for its turn. Where it is over, what its conversation kept is given back, and its client is told that nothing
-    /// more comes. How many octets are posted of it no more.
+    /// It is told this while it waits for its turn. Where it is over, what its conversation kept is given back, and its
+    /// client is told that nothing more comes. How many octets are posted of it no more.
     pub fn take_note(&mut self, alloc: Global, notice: Notice) -> u64
         ensures same { IsSame self.old self.new }
         ensures noted { HasNoted self.old notice self.new }

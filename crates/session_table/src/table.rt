@@ -1,5 +1,5 @@
-//! What the threads of a pool share under one lock: the sessions that no thread serves, what they hold, the updates that wait in threads, and whose
-//! turn it is.
+//! What the threads of a pool share under one lock: the sessions that no thread serves, what they hold, the updates
+//! that wait in threads, and whose turn it is.
 ghost use Rattle.std.specs.Prelude.{◌≡◌, [], None, Some, IfOk, IfErr, OnOk, OnErr, IfSome, IfNone, IsFalse, ◌↔◌, replicate, slice_set};
 ghost use Rattle.std.specs.Option.{option_map};
 ghost use Rattle.session_turns.specs.Holding.{IsRather, NoneRather};
@@ -48,7 +48,7 @@ pub enum ClientState {
 
 /// What a thread does that has noted the state of a client.
 #[derive(Clone, Copy, Debug, PartialEq, Eq)]
-pub enum Noted {
+pub enum NoteOutcome {
     Nothing,
     /// It lets the update in this thread go.
     Leaves(usize),
@@ -115,7 +115,8 @@ impl Table {
         self.places.free(place);
     }
 
-    /// Puts a session at its place, where it waits for its client; it comes back where there is no memory, or where the place isn't its own.
+    /// Puts a session at its place, where it waits for its client; it comes back where there is no memory, or where the
+    /// place isn't its own.
     pub fn park(&mut self, pooled: PooledSession, queue: Queue) -> Result<(), PooledSession>
         ensures ok { OnOk result (Parks (tabled self.old.places) pooled queue (tabled self.new.places)) }
         ensures holds { OnOk result (Holds self.old.holders pooled self.new.holders) }
@@ -128,8 +129,8 @@ impl Table {
         Ok(())
     }
 
-    /// Puts a session at its place of which a whole message stands next: it waits for a seat behind all others of its class at this moment. Whom its
-    /// thread calls.
+    /// Puts a session at its place of which a whole message stands next: it waits for a seat behind all others of its
+    /// class at this moment. Whom its thread calls.
     pub fn queue(&mut self, pooled: PooledSession, now: u64) -> Result<Call, PooledSession>
         ensures ok { OnOk result (LinesUp (tabled self.old.places) pooled Turn.Seat now (tabled self.new.places)) }
         ensures holds { OnOk result (Holds self.old.holders pooled self.new.holders) }
@@ -211,7 +212,8 @@ impl Table {
         Some(pooled)
     }
 
-    /// Takes the next session whose update waits for a thread: the one that has waited longest. It waits in this thread from now on.
+    /// Takes the next session whose update waits for a thread: the one that has waited longest. It waits in this thread
+    /// from now on.
     pub fn next_update(&mut self, thread: usize) -> Option<PooledSession>
         ensures some { IfSome result (λ g. Works (tabled self.old.places) g (tabled self.new.places)) }
         ensures none { IfNone result ((tabled self.old.places).updates ≡ []) }
@@ -242,8 +244,9 @@ impl Table {
         self.updaters.gone(limit, now)
     }
 
-    /// The session of a place that waits for its client waits for its turn; its socket, and for what it waits. The moment comes as the system and as
-    /// the pool tell it, in microseconds. None, where no session waits for its client there.
+    /// The session of a place that waits for its client waits for its turn; its socket, and for what it waits. The
+    /// moment comes as the system and as the pool tell it, in microseconds. None, where no session waits for its client
+    /// there.
     pub fn rouse(&mut self, place: usize, now: Instant, micros: u64) -> Option<(RawFd, Turn)>
         ensures some { IfSome result (λ r. Rouses (tabled self.old.places) place r.1 micros (tabled self.new.places)) }
         ensures none { IfNone result (IsAt (tabled self.old.places) place PlaceState.Waits → ⊥) }
@@ -259,8 +262,8 @@ impl Table {
         self.places.token_at(place)
     }
 
-    /// The session of a place that waits for its turn is told this, and waits on. How many octets are posted of it no more; none, where no session
-    /// waits for its turn there.
+    /// The session of a place that waits for its turn is told this, and waits on. How many octets are posted of it no
+    /// more; none, where no session waits for its turn there.
     pub fn notify(&mut self, alloc: Global, place: usize, notice: Notice) -> Option<u64>
         ensures some { IfSome result (λ _. Notes (tabled self.old.places) place notice (tabled self.new.places)) }
         ensures none { IfNone result (WaitsItsTurn (tabled self.old.places) place → ⊥) }
@@ -269,16 +272,18 @@ impl Table {
         self.places.notify(alloc, place, notice)
     }
 
-    /// Takes note of the state of a client, of which the poll has told by this token, where its session's update waits: in a thread, or for one.
+    /// Takes note of the state of a client, of which the poll has told by this token, where its session's update waits:
+    /// in a thread, or for one.
     pub fn note(
         &mut self,
         alloc: Global,
         token: usize,
         state: ClientState,
         now: Instant,
-    ) -> Noted
-        ensures leaves { (thread : ℕ) → result ≡ Noted.Leaves thread → HasPost (posted self.old.updaters) thread token }
-        ensures gives { (less : ℕ) → result ≡ Noted.Gives less
+    ) -> NoteOutcome
+        ensures leaves { (thread : ℕ) → result ≡ NoteOutcome.Leaves thread
+            → HasPost (posted self.old.updaters) thread token }
+        ensures gives { (less : ℕ) → result ≡ NoteOutcome.Gives less
             → IsToldOf (tabled self.old.places) token (tabled self.new.places) }
     {
         match self.updaters.thread_of(token) {
@@ -287,16 +292,17 @@ impl Table {
         }
     }
 
-    /// The same, where its update waits in this thread: it goes where the client is gone, or has sent no more for too long.
-    fn note_in_thread(&mut self, thread: usize, state: ClientState, now: Instant) -> Noted
-        ensures gone { state ≡ ClientState.Gone → result ≡ Noted.Leaves thread }
-        ensures open { state ≡ ClientState.SendsNoMore → result ≡ Noted.Nothing }
+    /// The same, where its update waits in this thread: it goes where the client is gone, or has sent no more for too
+    /// long.
+    fn note_in_thread(&mut self, thread: usize, state: ClientState, now: Instant) -> NoteOutcome
+        ensures gone { state ≡ ClientState.Gone → result ≡ NoteOutcome.Leaves thread }
+        ensures open { state ≡ ClientState.SendsNoMore → result ≡ NoteOutcome.Nothing }
     {
         match state {
-            ClientState::Gone => Noted::Leaves(thread),
+            ClientState::Gone => NoteOutcome::Leaves(thread),
             ClientState::SendsNoMore => {
                 self.updaters.close(thread, now);
-                Noted::Nothing
+                NoteOutcome::Nothing
             }
         }
     }
@@ -308,26 +314,27 @@ impl Table {
         token: usize,
         state: ClientState,
         now: Instant,
-    ) -> Noted
-        ensures stays { (thread : ℕ) → result ≡ Noted.Leaves thread → ⊥ }
-        ensures gives { (less : ℕ) → result ≡ Noted.Gives less
+    ) -> NoteOutcome
+        ensures stays { (thread : ℕ) → result ≡ NoteOutcome.Leaves thread → ⊥ }
+        ensures gives { (less : ℕ) → result ≡ NoteOutcome.Gives less
             → IsToldOf (tabled self.old.places) token (tabled self.new.places) }
     {
         let place = place_in(token);
         if self.places.token_at(place) != Some(token) {
-            return Noted::Nothing;
+            return NoteOutcome::Nothing;
         }
         let notice = match state {
             ClientState::Gone => Notice::Over(SessionEnd::ReadFailed),
             ClientState::SendsNoMore => Notice::SendsNoMore(now),
         };
         match self.places.notify(alloc, place, notice) {
-            Some(less) => Noted::Gives(less),
-            None => Noted::Nothing,
+            Some(less) => NoteOutcome::Gives(less),
+            None => NoteOutcome::Nothing,
         }
     }
 
-    /// Drops what the client of a session has sent that is over. Where it sends no more, its socket is closed and its place is free.
+    /// Drops what the client of a session has sent that is over. Where it sends no more, its socket is closed and its
+    /// place is free.
     pub fn drop_input(&mut self, place: usize, buffer: &mut [u8]) -> Farewell
         ensures { result ≡ Farewell.Elsewhere → tabled self.new.places ≡ tabled self.old.places }
     {
@@ -336,9 +343,7 @@ impl Table {
         };
         match pooled.drop_input(buffer) {
             Dropped::All => Farewell::Nothing,
-            Dropped::Much => {
-                Farewell::AsksAgain(pooled.fd(), token_of(place, pooled.number))
-            }
+            Dropped::Much => { Farewell::AsksAgain(pooled.fd(), token_of(place, pooled.number)) }
             Dropped::Over => {
                 self.close_at(place);
                 Farewell::Nothing

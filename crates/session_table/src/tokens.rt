@@ -2,7 +2,8 @@
 ghost use Rattle.std.specs.Prelude.{◌≡◌, ◌<◌, ◌%◌, ◌/◌};
 ghost use Rattle.session_table.specs.Tokens.{token_of};
 
-/// How many places tokens tell apart. Above stands the rest of a session's number by as many, since its place may be another session's by then.
+/// How many places tokens tell apart. Above stands the rest of a session's number by as many, since its place may be
+/// another session's by then.
 const PLACES: u64 = 4_294_967_296;
 
 /// What the poll reports the socket of a session by.

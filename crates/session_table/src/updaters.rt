@@ -1,4 +1,5 @@
-//! The sessions whose updates wait in threads of their own, and which of their clients send no more. One thread at a time.
+//! The sessions whose updates wait in threads of their own, and which of their clients send no more. One thread at a
+//! time.
 ghost use Rattle.std.specs.Prelude.{◌≡◌, ◌≤◌, ◌-◌, ◌↔◌, ℕ, IsTrue, IfOk, IfSome, IfNone, None, Some, length, replicate, slice_get, slice_set};
 ghost use Rattle.std.specs.Duration.{as_nanos};
 ghost use Rattle.std.specs.Time.{instant_nanos};
@@ -51,9 +52,11 @@ impl Updaters {
         })
     }
 
-    /// The update of the session of this token waits in this thread; its client may send more, or has sent no more since then.
+    /// The update of the session of this token waits in this thread; its client may send more, or has sent no more
+    /// since then.
     pub fn post(&mut self, thread: usize, token: usize, closed: Option<Instant>)
-        ensures { posted self.new ≡ slice_set (posted self.old) thread (Some (record { token = token; closed = closed })) }
+        ensures { posted self.new ≡ slice_set (posted self.old) thread
+            (Some (record { token = token; closed = closed })) }
     {
         if thread < self.updaters.len() {
             self.updaters[thread] = Some(Updater { token, closed });

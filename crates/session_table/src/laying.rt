@@ -19,7 +19,7 @@ pub enum Destination {
 }
 
 /// Where a session goes of which this has become.
-pub fn destination(pooled: &PooledSession, then: Then) -> Destination
+pub fn destination_of(pooled: &PooledSession, then: Then) -> Destination
     ensures { Becomes (talk pooled.now) then → Fits (talk pooled.now) result }
 {
     match then {
