@@ -1,6 +1,7 @@
 //! A disk: what a read gives, what is settled, and which writes no sync has settled yet. A crash leaves of each such write what chance says.
 
 use crate::chance::Chance;
+use crate::growth::{pause, resume};
 use std::alloc::{AllocError, Global};
 
 /// A write that no sync has settled.
@@ -91,8 +92,16 @@ impl Disk {
         true
     }
 
-    /// Writes; of a write that fails the first half is there.
+    /// Writes.
     fn take_write(&mut self, at: u64, octets: &[u8]) -> bool {
+        pause();
+        let is_done = self.write_now(at, octets);
+        resume();
+        is_done
+    }
+
+    /// Writes; of a write that fails the first half is there.
+    fn write_now(&mut self, at: u64, octets: &[u8]) -> bool {
         let fails = self.is_struck();
         let at = at as usize;
         let count = if fails { octets.len() / 2 } else { octets.len() };
@@ -104,6 +113,13 @@ impl Disk {
     }
 
     fn take_sync(&mut self) -> bool {
+        pause();
+        let is_done = self.sync_now();
+        resume();
+        is_done
+    }
+
+    fn sync_now(&mut self) -> bool {
         self.syncs += 1;
         if self.is_struck() {
             return false;
@@ -124,6 +140,13 @@ impl Disk {
     }
 
     fn take_grow(&mut self, octets: u64) -> bool {
+        pause();
+        let is_done = self.grow_now(octets);
+        resume();
+        is_done
+    }
+
+    fn grow_now(&mut self, octets: u64) -> bool {
         if self.is_struck() {
             return false;
         }

@@ -10,13 +10,19 @@ const ASKED: i32 = 1_000_000;
 /// What the library answers as the greatest limit: no limit is this one.
 const IS_THERE: u64 = 0x6772_6f77;
 
+/// From this number on it counts none, and behind it it goes on: what a disk of the test keeps is no growth of the replica.
+const PAUSES: i32 = 2_000_000;
+
 /// How many growths were refused since the last question; nothing, where the library isn't there.
 fn ask(nth: u64) -> Option<u64> {
+    told(ASKED + (nth % 1000) as i32)
+}
+
+fn told(resource: i32) -> Option<u64> {
     let mut limit = rlimit {
         rlim_cur: 0,
         rlim_max: 0,
     };
-    let resource = ASKED + (nth % 1000) as i32;
     if getrlimit(resource, &mut limit) != 0 || limit.rlim_max != IS_THERE {
         return None;
     }
@@ -38,4 +44,14 @@ pub fn refuse(nth: u64) {
 /// Has no growth refused any more; whether one was.
 pub fn grant(nth: u64) -> bool {
     nth > 0 && ask(0).unwrap_or(0) > 0
+}
+
+/// Growths that follow aren't counted.
+pub fn pause() {
+    told(PAUSES);
+}
+
+/// Growths are counted again.
+pub fn resume() {
+    told(PAUSES + 1);
 }

@@ -23,6 +23,8 @@ pub struct Served {
     /// What its next message has asked for, once it was given to the node, and the role at that moment.
     pub noted: Option<Noted>,
     pub standing: Standing,
+    /// Whether a growth was refused in one of its answers.
+    pub lacked_memory: bool,
 }
 
 /// A disk that hangs: the node stays inside of a step, while the other threads go on.

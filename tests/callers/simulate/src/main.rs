@@ -7,6 +7,7 @@ mod caller;
 mod chance;
 mod disk;
 mod gates;
+mod growth;
 mod judging;
 mod machine;
 mod names;

@@ -82,6 +82,7 @@ struct Totals {
     power_cuts: u64,
     device_failures: u64,
     hangs: u64,
+    refused_growths: u64,
     views: u64,
 }
 
@@ -119,6 +120,7 @@ fn run<R: Wait + Eprint>(
     totals.power_cuts += counts.power_cuts;
     totals.device_failures += counts.device_failures + counts.refused_starts;
     totals.hangs += counts.hangs;
+    totals.refused_growths += counts.refused_growths;
     totals.views += counts.views;
     let text = format!(in alloc; "{} replicas, journals {}: {counts:?}, {} committed",
         setting.count, setting.has_journals, world.record.committed.len())?;
@@ -141,6 +143,7 @@ pub fn play<R: Wait + Print + Eprint>(rt: &R, alloc: Global, wish: &Wish) -> io:
         power_cuts: 0,
         device_failures: 0,
         hangs: 0,
+        refused_growths: 0,
         views: 0,
     };
     for seed in wish.first..wish.first + wish.seeds {
@@ -160,8 +163,8 @@ pub fn play<R: Wait + Print + Eprint>(rt: &R, alloc: Global, wish: &Wish) -> io:
         "{} steps, {} messages, {} updates and {} reads answered, {} left open, {} committed",
         totals.steps, totals.messages, totals.updates, totals.searches, totals.open, totals.committed)?;
     println!(rt;
-        "{} crashes, {} power cuts of all, {} failed disks, {} hung disks, {} views entered",
-        totals.crashes, totals.power_cuts, totals.device_failures, totals.hangs, totals.views)?;
+        "{} crashes, {} power cuts of all, {} failed disks, {} hung disks, {} refused growths, {} views entered",
+        totals.crashes, totals.power_cuts, totals.device_failures, totals.hangs, totals.refused_growths, totals.views)?;
     println!(rt; "{passed} passed, {failed} failed")?;
     Ok(failed == 0)
 }

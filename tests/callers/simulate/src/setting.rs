@@ -1,6 +1,7 @@
 //! What a run is of: how many replicas, which faults, and which wrong rule is planted.
 
 use crate::chance::Chance;
+use crate::growth::can_be_refused;
 
 /// A wrong rule, planted to see it found.
 #[derive(Clone, Copy, Debug, PartialEq, Eq)]
@@ -26,6 +27,8 @@ pub enum Planted {
     NoPublication,
     /// A primary whose disk hangs repeats its last beat for ever.
     EndlessBeats,
+    /// An update that is refused for want of memory is answered as the one before it.
+    RefusedAsDone,
 }
 
 /// Their words on the command line.
@@ -40,6 +43,7 @@ pub const PLANTS: &[(&str, Planted)] = &[
     ("forgetful-start", Planted::ForgetfulStart),
     ("no-publication", Planted::NoPublication),
     ("endless-beats", Planted::EndlessBeats),
+    ("refused-as-done", Planted::RefusedAsDone),
 ];
 
 /// What a run is of.
@@ -59,6 +63,8 @@ pub struct Setting {
     pub shuffles: u64,
     /// By how many thousandths clocks are faster or slower than true time, at most.
     pub drift: u64,
+    /// How many thousandths of the calls of nodes, sessions and publishers have a growth refused.
+    pub refusals: u64,
     pub planted: Planted,
     pub traces: bool,
 }
@@ -82,6 +88,7 @@ impl Setting {
             repeats: chance.below(60),
             shuffles: if is_calm { 0 } else { chance.below(500) },
             drift: if is_calm { 0 } else { chance.below(200) },
+            refusals: if is_calm || !can_be_refused() { 0 } else { chance.below(150) },
             planted,
             traces,
         }

@@ -5,17 +5,18 @@ use crate::caller::{Asked, Caller, Ended, Heard, Pending};
 use crate::chance::Chance;
 use crate::disk::{Disk, Trouble};
 use crate::gates::{AskingGate, Blind, Here, Lent, TurnGate};
+use crate::growth::{grant, refuse};
 use crate::judging::{ReadAnswer, Record, UpdateAnswer, Wanted};
 use crate::machine::{Hang, Machine, Running, Served, status_of};
 use crate::names::{Path, SUFFIX};
 use crate::setting::{Planted, Setting};
 use crate::spelling::{MANAGER, PASSWORD, bind_request, octets, question_request, update_request};
 use dir_node::{
-    AllHandled, Client, Cluster, Event, Handled, Indexes, LogEntry, Name, Node, NodeConfig, Op,
+    AllHandled, Client, Cluster, Event, Handled, Indexes, LogEntry, Name, Node, NodeConfig, NodeError, Op,
     Outcome, Outputs, PeerMessage, Refused, Schema, Standing, copy_message,
 };
 use dir_seats::seats;
-use ldap_session::{Config, Conversation, Due as Next, Step};
+use ldap_session::{Config, Conversation, Due as Next, SessionEnd, Step};
 use replica_clock::{Due, Pace, ReplicaClock, Steps, Times, sign_of};
 use schema_reader::built_in_schema;
 use std::alloc::{AllocError, Global};
@@ -51,6 +52,7 @@ pub struct Counts {
     pub device_failures: u64,
     pub refused_starts: u64,
     pub hangs: u64,
+    pub refused_growths: u64,
     pub views: u64,
     pub messages: u64,
     pub searches: u64,
@@ -74,6 +76,8 @@ pub struct World<'a, R: Wait + Eprint> {
     cuts: Vec<bool>,
     /// The ticket of each request, by client and number.
     tickets: BTreeMap<u64, usize>,
+    /// The requests that nodes refused for want of memory.
+    refused: BTreeMap<u64, ()>,
     pub record: Record,
     frame_number: u64,
     is_healed: bool,
@@ -120,6 +124,7 @@ impl<'a, R: Wait + Eprint> World<'a, R> {
             callers: Vec::new(alloc),
             cuts: vec![in alloc; false; setting.count * setting.count]?,
             tickets: BTreeMap::new(alloc),
+            refused: BTreeMap::new(alloc),
             record: Record::new(alloc),
             frame_number: 0,
             is_healed: false,
@@ -130,6 +135,7 @@ impl<'a, R: Wait + Eprint> World<'a, R> {
                 device_failures: 0,
                 refused_starts: 0,
                 hangs: 0,
+                refused_growths: 0,
                 views: 0,
                 messages: 0,
                 searches: 0,
@@ -206,15 +212,24 @@ impl<'a, R: Wait + Eprint> World<'a, R> {
         }
         let is_first = !self.machines[at].was_born
             || (self.setting.planted == Planted::ForgetfulStart && journal.is_none());
+        let was_refused;
         let made = if is_first {
             let (views, journal) = if self.machines[at].was_born {
                 (Disk::new(self.alloc), None)
             } else {
                 (views, journal)
             };
-            Node::fresh(self.alloc, views, journal, config)
+            let nth = self.refused_growth();
+            refuse(nth);
+            let made = Node::fresh(self.alloc, views, journal, config);
+            was_refused = self.granted(nth);
+            made
         } else {
-            Node::reopen(self.alloc, views, journal, config)
+            let nth = self.refused_growth();
+            refuse(nth);
+            let made = Node::reopen(self.alloc, views, journal, config);
+            was_refused = self.granted(nth);
+            made
         };
         match made {
             Ok((node, outputs)) => {
@@ -229,8 +244,25 @@ impl<'a, R: Wait + Eprint> World<'a, R> {
                 }
                 Ok(())
             }
-            Err(refused) => self.refuse(at, refused),
+            Err(refused) => self.refuse(at, refused, was_refused),
         }
+    }
+
+    /// Which growth of the next call is refused; 0 for none.
+    fn refused_growth(&mut self) -> u64 {
+        if self.is_healed || !self.chance.hits(self.setting.refusals) {
+            return 0;
+        }
+        self.chance.spread(1, 64)
+    }
+
+    /// No growth is refused any more; whether one was.
+    fn granted(&mut self, nth: u64) -> bool {
+        let was_refused = grant(nth);
+        if was_refused {
+            self.counts.refused_growths += 1;
+        }
+        was_refused
     }
 
     fn standing(&self, at: usize) -> Option<Standing> {
@@ -241,7 +273,12 @@ impl<'a, R: Wait + Eprint> World<'a, R> {
     }
 
     /// A start was refused: its disks are as it left them.
-    fn refuse(&mut self, at: usize, refused: Refused<Disk, Disk>) -> Result<(), AllocError> {
+    fn refuse(
+        &mut self,
+        at: usize,
+        refused: Refused<Disk, Disk>,
+        lacked_memory: bool,
+    ) -> Result<(), AllocError> {
         let Refused {
             error,
             device,
@@ -250,7 +287,7 @@ impl<'a, R: Wait + Eprint> World<'a, R> {
         self.counts.refused_starts += 1;
         let line = format!(in self.alloc; "start {at} refused: {error}")?;
         self.trace(line)?;
-        if !self.machines[at].is_doomed {
+        if !self.machines[at].is_doomed && !lacked_memory {
             let what = format!(in self.alloc; "replica {at} does not start: {error}")?;
             self.record.blame(what)?;
         }
@@ -479,6 +516,8 @@ impl<'a, R: Wait + Eprint> World<'a, R> {
         }
         let local = self.machines[at].local(self.now);
         let is_dropped = self.setting.planted == Planted::DroppedEvents && self.chance.hits(500);
+        // A disk of the test that lacks memory itself ends its node.
+        let nth = if self.may_crash(at) { self.refused_growth() } else { 0 };
         let Some(running) = &mut self.machines[at].running else {
             return Ok(());
         };
@@ -491,24 +530,50 @@ impl<'a, R: Wait + Eprint> World<'a, R> {
         }
         let view_before = running.node.view_number();
         let is_beat = matches!(events.first(), Some(Event::Beat));
+        let was_refused;
+        let mut lacked_memory = false;
         let result = if events.len() == 1 {
             let Some(event) = events.pop() else {
                 return Ok(());
             };
-            match running.node.handle(self.alloc, event) {
+            let asked = match &event {
+                Event::Request { entry } => Some(key_of(entry.client, entry.request_number)),
+                _ => None,
+            };
+            refuse(nth);
+            let handled = running.node.handle(self.alloc, event);
+            was_refused = grant(nth);
+            match handled {
                 Ok(Handled { outputs, behind: _ }) => {
                     let mut all = Vec::new(self.alloc);
                     all.push(Ok(outputs))?;
                     Some(all)
                 }
+                Err(NodeError::NoMemory) => {
+                    lacked_memory = true;
+                    if let Some(key) = asked {
+                        self.refused.insert(key, ())?;
+                    }
+                    Some(Vec::new(self.alloc))
+                }
                 Err(_) => None,
             }
         } else {
-            match running.node.handle_all(self.alloc, events) {
+            refuse(nth);
+            let handled = running.node.handle_all(self.alloc, events);
+            was_refused = grant(nth);
+            match handled {
                 Ok(AllHandled { outputs, behind: _ }) => Some(outputs),
+                Err(NodeError::NoMemory) => {
+                    lacked_memory = true;
+                    Some(Vec::new(self.alloc))
+                }
                 Err(_) => None,
             }
         };
+        if was_refused {
+            self.counts.refused_growths += 1;
+        }
         let view_number = running.node.view_number();
         let status = status_of(running.node.standing());
         running.clock.note(view_number, status, local);
@@ -519,6 +584,10 @@ impl<'a, R: Wait + Eprint> World<'a, R> {
             self.counts.views += 1;
             let line = format!(in self.alloc; "replica {at} in view {view_number}")?;
             self.trace(line)?;
+        }
+        if lacked_memory && !was_refused {
+            let what = format!(in self.alloc; "replica {at} says that it lacks memory, and no growth was refused")?;
+            self.record.blame(what)?;
         }
         match result {
             Some(outputs) => {
@@ -606,17 +675,21 @@ impl<'a, R: Wait + Eprint> World<'a, R> {
     /// Shows the seats what the node has executed.
     fn publish(&mut self, at: usize) -> Result<(), AllocError> {
         let is_mute = self.setting.planted == Planted::NoPublication;
+        let nth = self.refused_growth();
         let Some(running) = &mut self.machines[at].running else {
             return Ok(());
         };
         if is_mute && running.node.executed_len() > 5 {
             return Ok(());
         }
-        running.publisher.append(running.node.executed())?;
-        if running.publisher.is_behind() {
-            running.publisher.publish()?;
+        refuse(nth);
+        let is_appended = running.publisher.append(running.node.executed()).is_ok();
+        let is_shown = !is_appended || !running.publisher.is_behind() || running.publisher.publish().is_ok();
+        let was_refused = grant(nth);
+        if was_refused {
+            self.counts.refused_growths += 1;
         }
-        Ok(())
+        if was_refused || is_appended && is_shown { Ok(()) } else { Err(AllocError) }
     }
 
     /// Compares what a node has executed with what is committed, and takes note of what is new.
@@ -694,6 +767,7 @@ impl<'a, R: Wait + Eprint> World<'a, R> {
         let is_hung = self.machines[at].is_hung(self.now);
         let planted = self.setting.planted;
         let other = self.chance.hits(200);
+        let nth = self.refused_growth();
         let Some(running) = &mut self.machines[at].running else {
             return Ok(());
         };
@@ -754,7 +828,13 @@ impl<'a, R: Wait + Eprint> World<'a, R> {
             let seat = Lent {
                 seat: &mut running.seat,
             };
-            if session.own.answer(self.alloc, &config, &mut (seat, gate)) == Step::Answered {
+            refuse(nth);
+            let step = session.own.answer(self.alloc, &config, &mut (seat, gate));
+            if grant(nth) {
+                session.lacked_memory = true;
+                self.counts.refused_growths += 1;
+            }
+            if step == Step::Answered {
                 session.answered += 1;
             }
             return Ok(());
@@ -768,6 +848,9 @@ impl<'a, R: Wait + Eprint> World<'a, R> {
         };
         let mut number = noted.number;
         if planted == Planted::OtherOutcome && other {
+            number = number.saturating_sub(1).max(1);
+        }
+        if planted == Planted::RefusedAsDone && self.refused.get(&key_of(noted.client, number)).is_some() {
             number = number.saturating_sub(1).max(1);
         }
         let ended = match running.node.outcome(noted.client, number) {
@@ -799,7 +882,13 @@ impl<'a, R: Wait + Eprint> World<'a, R> {
         let seat = Lent {
             seat: &mut running.seat,
         };
-        if session.own.answer(self.alloc, &config, &mut (seat, gate)) == Step::Answered {
+        refuse(nth);
+        let step = session.own.answer(self.alloc, &config, &mut (seat, gate));
+        if grant(nth) {
+            session.lacked_memory = true;
+            self.counts.refused_growths += 1;
+        }
+        if step == Step::Answered {
             session.answered += 1;
         }
         session.noted = None;
@@ -867,6 +956,7 @@ impl<'a, R: Wait + Eprint> World<'a, R> {
             twin: Conversation::new(self.alloc),
             noted: None,
             standing: Standing::Changing,
+            lacked_memory: false,
         })?;
         self.callers[caller].session = Some((at, number));
         let request = bind_request(self.alloc)?;
@@ -1004,6 +1094,7 @@ impl<'a, R: Wait + Eprint> World<'a, R> {
         };
         let one = &mut self.callers[caller];
         let mut is_over = false;
+        let mut lacked_memory = false;
         if let Some(running) = &mut self.machines[at].running {
             let session = &mut running.sessions[which];
             let octets = piece(session.own.unsent(), 0, count);
@@ -1011,6 +1102,7 @@ impl<'a, R: Wait + Eprint> World<'a, R> {
             one.inbox.extend_from_slice(octets)?;
             session.own.sent(taken);
             is_over = session.own.end().is_some() && session.own.unsent().is_empty();
+            lacked_memory = session.lacked_memory && session.own.end() == Some(SessionEnd::NoMemory);
         }
         loop {
             match self.callers[caller].next(self.alloc)? {
@@ -1022,8 +1114,8 @@ impl<'a, R: Wait + Eprint> World<'a, R> {
                     return self.leave(caller);
                 }
                 Heard::Ended(ended) => {
-                    if let (Asked::Bind, 52) = (&ended.asked, ended.code) {
-                        // The replica recovers: another one is tried.
+                    if let (Asked::Bind, 52 | 80) = (&ended.asked, ended.code) {
+                        // The replica recovers, or lacks memory: another one is tried.
                         return self.leave(caller);
                     }
                     let is_referred = ended.code == 10;
@@ -1035,8 +1127,10 @@ impl<'a, R: Wait + Eprint> World<'a, R> {
             }
         }
         if is_over {
-            let what = format!(in self.alloc; "the session of client {caller} has ended")?;
-            self.record.blame(what)?;
+            if !lacked_memory {
+                let what = format!(in self.alloc; "the session of client {caller} has ended")?;
+                self.record.blame(what)?;
+            }
             return self.leave(caller);
         }
         Ok(())
