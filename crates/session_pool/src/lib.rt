@@ -2,11 +2,10 @@
 //! the threads that read, one waits for all silent sessions and queues those that are ready. Other
 //! threads serve updates, which may have to wait.
 //!
-//! Serves the sessions of sockets by a few threads. A session is a value (`pooled`): its `Conversation`, its socket,
-//! its place. While it waits the `Table` owns it, while it is served one thread does. Each thread that reads (a seat)
-//! has a directory of its own. Of the free seats one leads (`leading`): it waits in `mio`'s poll for all sessions,
-//! queues those that are ready, lets the next seat lead, and serves the first itself. No thread hands messages over,
-//! and no lock is held while a message is answered.
+//! While a session waits the table owns it, while it is served one thread does (`session_table`); here are the lock of
+//! the table, the poll and the threads. Each thread that reads (a seat) has a directory of its own. Of the free seats
+//! one leads (`leading`): it waits in `mio`'s poll for all sessions, queues those that are ready, lets the next seat
+//! lead, and serves the first itself. No thread hands messages over, and no lock is held while a message is answered.
 //!
 //! - *Waiting.* A session is parked and registered with the poll under the table's lock, which the leader takes before
 //!   it looks at events. So no event finds an empty place. The heads of the queues say who has waited for too long.
@@ -36,13 +35,11 @@
 //! - *No room.* When the table is full, or descriptors are used up, a session that is over goes, else the longest
 //!   silent one (`arriving`).
 //!
-//! Proved: a session hears what its socket gave, and has sent a front of what it had to send, in order
-//! (`PooledSession::hear`, `say`, `queue`). A seat answers at most 16 of its messages in a row, no update among them,
-//! and goes on with it only where no whole message is left over, 256 times at most (`SessionPool::attend`, `sit`). How
-//! long a client takes over one message is counted from its beginning (`PooledSession::hear`, `pause`). A place has one
-//! session at a time. Each lines up in the class of what it owes at that moment, and seats take the one whose turn it
-//! is (`Places`). What a session owes changes by `PooledSession::charge` alone. A client's end is told once
-//! (`Updaters`). That each session is served, and soon, is tested (`tests/sessions`, `tests/streams`, `tests/hostile`).
+//! Proved: a seat answers at most 16 messages of a session in a row, no update among them, and goes on with it only
+//! where no whole message is left over, 256 times at most (`SessionPool::attend`, `sit`). A message is answered under
+//! its session's number (`answer_some`, `update`). What becomes of sessions and their places is proved in
+//! `session_table`. That each session is served, and soon, is tested (`tests/sessions`, `tests/streams`,
+//! `tests/hostile`).
 #![tactic(auto)]
 
 mod arriving;

@@ -112,7 +112,7 @@ impl Table {
     {
         let place = pooled.place;
         drop(pooled);
-        self.places.free(place);
+        self.free(place);
     }
 
     /// Puts a session at its place, where it waits for its client; it comes back where there is no memory, or where the
