@@ -6,6 +6,7 @@ pub mod Loop
 pub mod Stands
 pub mod FrameLaws
 pub mod PutLaws
+pub mod Fit
 pub mod OneFrame
 pub mod Pieces
 pub mod Runs

@@ -9,9 +9,9 @@ use Rattle.vr_state.specs.declared.message.PeerMessage.{PeerMessage}
 use Rattle.vr_wire.specs.declared.error.WireError.{WireError}
 use Rattle.vr_wire.specs.declared.error.WireError.TheVariants as error
 use Rattle.vr_wire.specs.Frames.{limit, short, rest_octets, frame_octets}
-use Rattle.vr_wire.specs.Putting.{IsLonger}
-use Rattle.vr_wire.specs.Parts.{part_head, part_octets, parts_from, pieces_of, saying_octets, ArePartsOf, IsNotSent, MakesFrames}
-use Rattle.vr_wire.specs.private.Parts.{ArePartsWithin, MakesParts}
+use Rattle.vr_wire.specs.private.Putting.{IsLonger}
+use Rattle.vr_wire.specs.Parts.{part_head, part_octets, parts_from, pieces_of, saying_octets, ArePartsOf}
+use Rattle.vr_wire.specs.private.Parts.{ArePartsWithin, CutsFrames, IsNotSent, MakesParts}
 
 pieces_joined : (size n : ℕ) (o : List ℕ) → length o ≤ n * size → concat (pieces_of size n o) ≡ o
 pieces_joined size zero o le = sym (nil_from_length o (omega (arith, zero-mul size, le)))
@@ -156,7 +156,7 @@ not_sent_longer error.NoMemory some more le h = tt
 pub in_parts : (most size piece cluster sender number : ℕ) (m : PeerMessage (List ℕ)) (saying : List ℕ)
     (r : Result (List (List ℕ)) WireError) → most < length (frame_octets cluster sender m) → piece ≤ size →
     saying ≡ saying_octets m
-    → MakesParts piece cluster sender number saying r → MakesFrames most size cluster sender number m r
+    → MakesParts piece cluster sender number saying r → CutsFrames most size cluster sender number m r
 in_parts most size piece cluster sender number m saying (Ok frames) long le is h =
     let parts = subst (λ (s : List ℕ). ArePartsOf cluster sender number s frames) is h.parts in
     record {
@@ -171,7 +171,7 @@ in_parts most size piece cluster sender number m saying (Err e) long le is h =
     (subst (IsNotSent e) is h)
 
 pub not_made : (most size cluster sender number : ℕ) (m : PeerMessage (List ℕ)) (e : WireError) →
-    IsLonger 4294967295 e (length (0 ∷ 0 ∷ 0 ∷ 0 ∷ rest_octets cluster sender m)) → MakesFrames most size cluster
+    IsLonger 4294967295 e (length (0 ∷ 0 ∷ 0 ∷ 0 ∷ rest_octets cluster sender m)) → CutsFrames most size cluster
     sender number m (Err e)
 not_made most size cluster sender number m error.BadFrame h =
     omega (arith, h, length-append (short (length (rest_octets cluster sender m))) (rest_octets cluster sender m))

@@ -8,8 +8,7 @@ use Rattle.vr_wire.specs.declared.error.WireError.{WireError}
 use Rattle.vr_wire.specs.declared.error.WireError.TheVariants as error
 use Rattle.vr_wire.specs.Frames.{short, entry_octets, entries_octets}
 use Rattle.vr_wire.specs.Payloads.{written_entry, written_log}
-use Rattle.vr_wire.specs.Putting.{IsLonger}
-use Rattle.vr_wire.specs.private.Putting.{PutsAlways, PutsWithin}
+use Rattle.vr_wire.specs.private.Putting.{IsLonger, PutsAlways, PutsWithin}
 
 -- what is longer is too long too
 pub longer : (most : ℕ) (e : WireError) (m n : ℕ) → m ≤ n → IsLonger most e m → IsLonger most e n

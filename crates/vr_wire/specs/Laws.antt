@@ -8,6 +8,8 @@ use Rattle.vr_state.specs.declared.message.PeerMessage.{PeerMessage}
 use Rattle.vr_state.specs.declared.message.PeerMessage.TheVariants.{Prepare, PrepareOk, Commit, StartViewChange, DoViewChange, StartView, GetState}
 use Rattle.vr_state.specs.declared.message.PeerMessage.TheVariants.{NewState, Recovery, RecoveryResponse}
 use Rattle.vr_state.specs.declared.message.Snapshot.{Snapshot}
+use Rattle.vr_wire.specs.declared.error.WireError.{WireError}
+use Rattle.vr_wire.specs.declared.error.WireError.TheVariants as error
 use Rattle.vr_wire.specs.Frames.{frame_octets, limit, IsInRange}
 use Rattle.vr_wire.specs.Payloads.{IsFrame, written}
 
@@ -59,3 +61,9 @@ abbrev pub WrittenIsFrame : Type 0
 WrittenIsFrame =
     (cluster sender : ℕ) (m : PeerMessage OpValue)
     → HasFrame cluster sender m → IsFrame cluster sender m (frame_octets cluster sender (written m))
+
+-- the message has no frame: what it says isn't in range, or the frame would be over the limit; or memory ran out
+abbrev pub HasNoFrame : WireError → ℕ → ℕ → PeerMessage OpValue → Type 0
+HasNoFrame error.BadFrame cluster sender m = HasFrame cluster sender m → ⊥
+HasNoFrame error.ForeignFrame cluster sender m = ⊥
+HasNoFrame error.NoMemory cluster sender m = Unit {0}

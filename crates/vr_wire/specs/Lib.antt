@@ -1,7 +1,6 @@
 pub mod Frames
 pub mod Cutting
 pub mod Payloads
-pub mod Putting
 pub mod Laws
 pub mod Parts
 pub mod Heap

@@ -1,5 +1,5 @@
 -- A message that one frame can't hold, in parts.
-use Rattle.std.specs.Prelude.{◌≡◌, ◌<◌, ◌≤◌, ◌+◌, ◌^◌, ℕ, zero, suc, List, [], ◌∷◌, ◌++◌, length}
+use Rattle.std.specs.Prelude.{◌≡◌, ◌<◌, ◌≤◌, ◌⊎◌, ◌+◌, ◌^◌, ℕ, zero, suc, List, [], ◌∷◌, ◌++◌, length}
 use Rattle.std.specs.Prelude.{take, drop, Option, Some, None, Result, Ok, Err}
 use Rattle.std.specs.Prelude.{Vec}
 use Rattle.std.specs.declared.alloc.Global.{Global}
@@ -11,7 +11,8 @@ use Rattle.vr_wire.specs.declared.error.WireError.{WireError}
 use Rattle.vr_wire.specs.declared.error.WireError.TheVariants as error
 use Rattle.vr_wire.specs.declared.labels.Portion.{Portion}
 use Rattle.vr_wire.specs.Frames.{limit, number, short, kind_of, body_octets, frame_octets, IsInRange}
-use Rattle.vr_wire.specs.Payloads.{IsMessageOf}
+use Rattle.vr_wire.specs.Laws.{records_of, AreUpdatesInRange}
+use Rattle.vr_wire.specs.Payloads.{IsFrame, IsMessageOf, written}
 
 -- what a message says, without the length, the version, the cluster and the sender: its kind, and what follows the
 -- sender's octet
@@ -86,16 +87,24 @@ pub record IsPart (cluster : ℕ) (p : Portion (List ℕ)) (frame : List ℕ) : 
   pub there : 1 ≤ length p.piece
   pub small : length frame ≤ limit
 
--- octets aren't sent: there are 2 ^ 32 or more, or memory ran out
-abbrev pub IsNotSent : WireError → List ℕ → Type 0
-IsNotSent error.BadFrame octets = 2 ^ 32 ≤ length octets
-IsNotSent error.ForeignFrame octets = ⊥
-IsNotSent error.NoMemory octets = Unit {0}
+-- the message isn't sent: what it says isn't in range, or one frame of it would have 2 ^ 32 octets or more; or memory
+-- ran out
+abbrev pub IsUnsent : WireError → PeerMessage OpValue → List ℕ → Type 0
+IsUnsent error.BadFrame m octets = IsInRange (written m) → AreUpdatesInRange (records_of m) → 2 ^ 32 ≤ length octets
+IsUnsent error.ForeignFrame m octets = ⊥
+IsUnsent error.NoMemory m octets = Unit {0}
 
--- the frames of a message are made; or it isn't sent, since one frame of it would have 2 ^ 32 octets or more
-abbrev pub MakesFrames : ℕ → ℕ → ℕ → ℕ → ℕ → PeerMessage (List ℕ) → Result (List (List ℕ)) WireError → Type 0
-MakesFrames most size cluster sender number m (Ok frames) = AreFramesOf most size cluster sender number m frames
-MakesFrames most size cluster sender number m (Err e) = IsNotSent e (frame_octets cluster sender m)
+-- the frames of a message are made, or it isn't sent
+abbrev pub MakesFrames : ℕ → ℕ → ℕ → ℕ → ℕ → PeerMessage OpValue → Result (List (List ℕ)) WireError → Type 0
+MakesFrames most size cluster sender number m (Ok frames) =
+    AreFramesOf most size cluster sender number (written m) frames
+MakesFrames most size cluster sender number m (Err e) = IsUnsent e m (frame_octets cluster sender (written m))
+
+-- the frames tell this message: the one is a frame of it, or all are the parts of octets that say it
+abbrev pub TellMessage : ℕ → ℕ → ℕ → PeerMessage OpValue → List (List ℕ) → Type 0
+TellMessage cluster sender number m frames =
+    ((frame : List ℕ) × (frames ≡ frame ∷ []) × IsFrame cluster sender m frame)
+    ⊎ ((octets : List ℕ) × IsSaying m octets × ArePartsOf cluster sender number octets frames)
 
 -- the next frame is handed out; or there is none; or memory ran out, and all are still to come
 abbrev pub HandsOut : Result (Option (List ℕ)) WireError → List (List ℕ) → List (List ℕ) → Type 0

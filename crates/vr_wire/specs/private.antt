@@ -2,6 +2,7 @@
 -- need not read it.
 pub mod Cutting
 pub mod Payloads
+pub mod Fitting
 pub mod Putting
 pub mod Rows
 pub mod Parts

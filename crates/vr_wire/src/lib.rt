@@ -18,6 +18,7 @@
 mod bodies;
 mod cutting;
 mod error;
+mod fitting;
 mod gathering;
 mod headings;
 mod labels;

@@ -1,14 +1,15 @@
 //! A message that one frame can't hold is cut in parts. Takes a message; gives its frames one at a time.
-ghost use Rattle.std.specs.Prelude.{◌≡◌, ◌≤◌, ◌<◌, ◌+◌, ◌-◌, ◌*◌, ◌^◌, ◌∷◌, [], ◌++◌, length, take, drop, min, max, slice_index};
+ghost use Rattle.std.specs.Prelude.{◌≡◌, ◌≤◌, ◌<◌, ◌+◌, ◌-◌, ◌*◌, ◌^◌, ◌∷◌, [], ◌++◌, length, take, drop, min, max, slice_index, IfOk};
 ghost use Rattle.vr_wire.specs.Frames.{limit, number, short};
 ghost use Rattle.vr_wire.specs.Payloads.{written};
 ghost use Rattle.vr_wire.specs.private.Putting.{PutsAlways, WritesAlways};
-ghost use Rattle.vr_wire.specs.Parts.{part_head, part_rest, part_octets, MakesFrames, HandsFrame, IsFrameWithin};
-ghost use Rattle.vr_wire.specs.private.Parts.{MakesParts};
+ghost use Rattle.vr_wire.specs.Parts.{part_head, part_rest, part_octets, MakesFrames, TellMessage, HandsFrame, IsFrameWithin};
+ghost use Rattle.vr_wire.specs.private.Parts.{CutsFrames, MakesParts};
 ghost use Rattle.vr_wire.specs.Left.{parts_left};
 ghost use Rattle.vr_wire.specs.private.Left.{AreLeft};
 
 use crate::error::WireError;
+use crate::fitting::message_fits;
 use crate::portions::PART;
 use crate::putting::{LIMIT, NO_LIMIT, put_count, put_number};
 use crate::writing::{open_frame, put_head, put_length};
@@ -225,10 +226,37 @@ fn put_kind(octets: &mut Vec<u8>)
     octets[SAYING] = octets[SAYING - 1];
 }
 
+/// The frames of a message that can be spelled.
+fn frames_of(
+    alloc: Global,
+    cluster: Cluster,
+    sender: u8,
+    number: u64,
+    sizes: FrameSizes,
+    message: &PeerMessage<Op>,
+) -> Result<Frames, WireError>
+    ensures { CutsFrames (min sizes.most limit) (max sizes.part_size 1) cluster sender number (written message.now) result }
+{
+    let mut octets = open_frame::<NO_LIMIT>(alloc, cluster, sender, message)?;
+    if octets.len() <= sizes.most.min(LIMIT) {
+        put_length(&mut octets);
+        return Ok(plain(alloc, cluster, octets));
+    }
+    put_kind(&mut octets);
+    in_parts(
+        cluster,
+        sender,
+        number,
+        sizes.part_size.max(1).min(MAX_PIECE),
+        octets,
+    )
+}
+
 impl Frames {
-    /// The frames of a message of this sender in this cluster: the one that `write` gives where it has at most `sizes.most` octets, and no more
-    /// than 268,435,456, and else its parts, of at most `sizes.part_size` octets of the message each. The sender gives another `number` to each
-    /// message. A `part_size` of 0 is taken as 1. E20 only where one frame of it would have 2 ^ 32 octets or more.
+    /// The frames of a message of this sender in this cluster: the one that `write` gives where it has at most `sizes.most`
+    /// octets, and no more than 268,435,456, and else its parts, of at most `sizes.part_size` octets of the message each.
+    /// The sender gives another `number` to each message. A `part_size` of 0 is taken as 1. E20 only where a number or an
+    /// update of the message has no octets, or one frame of it would have 2 ^ 32 octets or more.
     pub fn of(
         alloc: Global,
         cluster: Cluster,
@@ -237,21 +265,16 @@ impl Frames {
         sizes: FrameSizes,
         message: &PeerMessage<Op>,
     ) -> Result<Frames, WireError>
-        ensures { MakesFrames (min sizes.most limit) (max sizes.part_size 1) cluster sender number (written message.now) result }
+        ensures made { MakesFrames (min sizes.most limit) (max sizes.part_size 1) cluster sender number message.now result }
+        // They tell this message: `Gathering` makes it of them, and no other.
+        ensures tell { IfOk result (λ frames. TellMessage cluster sender number message.now frames) }
     {
-        let mut octets = open_frame::<NO_LIMIT>(alloc, cluster, sender, message)?;
-        if octets.len() <= sizes.most.min(LIMIT) {
-            put_length(&mut octets);
-            return Ok(plain(alloc, cluster, octets));
+        // prover: a cluster's number is in range
+        let _ = cluster.number();
+        if !message_fits(message) {
+            return Err(WireError::BadFrame);
         }
-        put_kind(&mut octets);
-        in_parts(
-            cluster,
-            sender,
-            number,
-            sizes.part_size.max(1).min(MAX_PIECE),
-            octets,
-        )
+        frames_of(alloc, cluster, sender, number, sizes, message)
     }
 
     /// The next frame, or none where all were handed out. Want of memory is the only error, and then the frame is still to come.

@@ -4,8 +4,7 @@ ghost use Rattle.view_store.specs.Cluster.{cluster_octets};
 ghost use Rattle.vr_wire.specs.Frames.{number, short, client_octets, payload_octets, entry_octets, entries_octets, log_octets, held_octets};
 ghost use Rattle.vr_wire.specs.Frames.{perhaps_octets};
 ghost use Rattle.vr_wire.specs.Payloads.{written_entry, written_log, written_held, written_perhaps};
-ghost use Rattle.vr_wire.specs.Putting.{WritesWithin};
-ghost use Rattle.vr_wire.specs.private.Putting.{PutsAlways, PutsWithin, most_under};
+ghost use Rattle.vr_wire.specs.private.Putting.{PutsAlways, PutsWithin, WritesWithin, most_under};
 ghost use Rattle.ldap_op.specs.Written.{op_bytes};
 
 use crate::error::WireError;
@@ -23,7 +22,7 @@ pub const LIMIT: usize = 268_435_456;
 pub const NO_LIMIT: usize = usize::MAX;
 
 /// The greatest count or length that four octets hold.
-const MAX_COUNT: usize = 0xffff_ffff;
+pub const MAX_COUNT: usize = 0xffff_ffff;
 
 pub fn put_octet(out: &mut Vec<u8>, octet: u8) -> Result<(), WireError>
     ensures spelled { PutsAlways result out.old.items out.new.items (octet ∷ []) }

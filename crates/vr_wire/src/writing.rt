@@ -1,13 +1,14 @@
 //! Writes frames.
-ghost use Rattle.std.specs.Prelude.{◌≡◌, ◌≤◌, ◌-◌, ◌∷◌, [], ◌++◌, length, drop, IfOk};
+ghost use Rattle.std.specs.Prelude.{◌≡◌, ◌≤◌, ◌-◌, ◌∷◌, [], ◌++◌, length, drop, IfOk, IfErr};
 ghost use Rattle.view_store.specs.Cluster.{cluster_octets};
 ghost use Rattle.vr_state.specs.declared.message.PeerMessage.TheVariants as kind;
 ghost use Rattle.vr_wire.specs.Frames.{frame_octets, rest_octets, body_octets, held_octets, number, short, kind_of, limit};
-ghost use Rattle.vr_wire.specs.Payloads.{written, written_held};
-ghost use Rattle.vr_wire.specs.Putting.{WritesWithin, Writes};
-ghost use Rattle.vr_wire.specs.private.Putting.{PutsAlways, PutsWithin, most_under};
+ghost use Rattle.vr_wire.specs.Laws.{HasNoFrame};
+ghost use Rattle.vr_wire.specs.Payloads.{IsFrame, written, written_held};
+ghost use Rattle.vr_wire.specs.private.Putting.{PutsAlways, PutsWithin, Writes, WritesWithin, most_under};
 
 use crate::error::WireError;
+use crate::fitting::message_fits;
 use crate::putting::{LIMIT, put_cluster, put_entry, put_held, put_log, put_number, put_perhaps};
 use ldap_op::Op;
 use std::alloc::Global;
@@ -241,17 +242,14 @@ pub fn put_length(frame: &mut Vec<u8>)
     frame[3] = length[3];
 }
 
-/// The one spelling of a message of this sender in this cluster. E20 only where it would be over the limit. No octet is copied twice but
-/// where room is made for more.
-pub fn write(
+/// The one spelling of a message that can be spelled, unless it's over the limit.
+fn write_frame(
     alloc: Global,
     cluster: Cluster,
     sender: u8,
     message: &PeerMessage<Op>,
 ) -> Result<Vec<u8>, WireError>
-    // What is written is the spelling; what is refused, want of memory aside, is over the limit.
     ensures spelled { Writes (λ v. v.items) result (frame_octets cluster sender (written message.now)) }
-    // Nothing over the limit is written.
     ensures small { IfOk result (λ v. length v.items ≤ limit) }
 {
     let mut frame = open_frame::<LIMIT>(alloc, cluster, sender, message)?;
@@ -260,4 +258,29 @@ pub fn write(
     }
     put_length(&mut frame);
     Ok(frame)
+}
+
+/// The one spelling of a message of this sender in this cluster. E20 only where it would be over the limit, or a number or
+/// an update of the message has no octets. No octet is copied twice but where room is made for more.
+pub fn write(
+    alloc: Global,
+    cluster: Cluster,
+    sender: u8,
+    message: &PeerMessage<Op>,
+) -> Result<Vec<u8>, WireError>
+    // What is written is the spelling,
+    ensures spelled { IfOk result (λ v. v.items ≡ frame_octets cluster sender (written message.now)) }
+    // a frame of this message and of no other.
+    ensures frame { IfOk result (λ v. IsFrame cluster sender message.now v.items) }
+    // What is refused, want of memory aside, has no frame.
+    ensures refused { IfErr result (λ e. HasNoFrame e cluster sender message.now) }
+    // Nothing over the limit is written.
+    ensures small { IfOk result (λ v. length v.items ≤ limit) }
+{
+    // prover: a cluster's number is in range
+    let _ = cluster.number();
+    if !message_fits(message) {
+        return Err(WireError::BadFrame);
+    }
+    write_frame(alloc, cluster, sender, message)
 }

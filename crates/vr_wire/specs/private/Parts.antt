@@ -1,6 +1,6 @@
 -- Frames: what contracts that aren't public say of it.
 -- What public contracts say is in specs/Parts.
-use Rattle.std.specs.Prelude.{◌≡◌, ◌≤◌, ◌+◌, ◌==◌, ◌&&◌, cond, nat_lt, ℕ, List, length}
+use Rattle.std.specs.Prelude.{◌≡◌, ◌≤◌, ◌+◌, ◌^◌, ◌==◌, ◌&&◌, cond, nat_lt, ℕ, List, length}
 use Rattle.std.specs.Prelude.{Option, Some, None, Result, Ok, Err}
 use Rattle.std.specs.Int.{w64, from_be_bytes}
 use Rattle.std.specs.List.{AllByRecursion}
@@ -8,9 +8,9 @@ use Rattle.vr_state.specs.declared.message.PeerMessage.{PeerMessage}
 use Rattle.vr_wire.specs.declared.error.WireError.{WireError}
 use Rattle.vr_wire.specs.declared.error.WireError.TheVariants as error
 use Rattle.vr_wire.specs.declared.labels.Portion.{Portion}
-use Rattle.vr_wire.specs.Frames.{number}
+use Rattle.vr_wire.specs.Frames.{number, frame_octets}
 use Rattle.vr_wire.specs.private.Cutting.{then, cut_octet, cut_octets, cut_short, cut_head, cut_body, sized}
-use Rattle.vr_wire.specs.Parts.{part_head, ArePartsOf, IsNotSent}
+use Rattle.vr_wire.specs.Parts.{part_head, AreFramesOf, ArePartsOf}
 
 -- a message, cut from what it says
 unfoldable pub cut_saying : List ℕ → Option (PeerMessage (List ℕ))
@@ -59,6 +59,12 @@ abbrev pub Finds : {X : Type 0} → Result (Option X) WireError → Option X →
 Finds (Ok found) cut = found ≡ cut
 Finds (Err e) cut = e ≡ error.NoMemory
 
+-- octets aren't sent: there are 2 ^ 32 or more, or memory ran out
+abbrev pub IsNotSent : WireError → List ℕ → Type 0
+IsNotSent error.BadFrame octets = 2 ^ 32 ≤ length octets
+IsNotSent error.ForeignFrame octets = ⊥
+IsNotSent error.NoMemory octets = Unit {0}
+
 -- the frames are the parts of these octets, of at most so many octets each
 pub record ArePartsWithin (size cluster sender number : ℕ) (saying : List ℕ) (frames : List (List ℕ)) : Type 0 where
   pub parts : ArePartsOf cluster sender number saying frames
@@ -68,3 +74,9 @@ pub record ArePartsWithin (size cluster sender number : ℕ) (saying : List ℕ)
 abbrev pub MakesParts : ℕ → ℕ → ℕ → ℕ → List ℕ → Result (List (List ℕ)) WireError → Type 0
 MakesParts size cluster sender number saying (Ok frames) = ArePartsWithin size cluster sender number saying frames
 MakesParts size cluster sender number saying (Err e) = IsNotSent e saying
+
+-- the frames of a message whose payloads are octets are made; or it isn't sent, since one frame of it would have 2 ^ 32
+-- octets or more
+abbrev pub CutsFrames : ℕ → ℕ → ℕ → ℕ → ℕ → PeerMessage (List ℕ) → Result (List (List ℕ)) WireError → Type 0
+CutsFrames most size cluster sender number m (Ok frames) = AreFramesOf most size cluster sender number m frames
+CutsFrames most size cluster sender number m (Err e) = IsNotSent e (frame_octets cluster sender m)

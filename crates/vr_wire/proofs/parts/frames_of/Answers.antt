@@ -6,7 +6,7 @@ use Rattle.vr_wire.specs.Frames.{limit, short, rest_octets, frame_octets}
 use Rattle.vr_wire.specs.Payloads.{written}
 use Rattle.vr_wire.specs.Parts.{saying_octets}
 use Rattle.vr_wire.proofs.Pieces.{in_parts, not_made}
-use Rattle.vr_wire.proofs.parts.Frames.of.Goals as goal
+use Rattle.vr_wire.proofs.parts.frames_of.Goals as goal
 
 pub returns-in_err-octets : goal.returns-in_err-octets
 returns-in_err-octets c =
