@@ -4,6 +4,7 @@ use Rattle.vr_state.specs.Lists.{IsPrefix, In, IsNamedIn, Rising}
 use Rattle.vr_state.specs.State.{State, is_recovering}
 use Rattle.vr_state.specs.Words.{LogEntry}
 use Rattle.vr_world.specs.World.{after}
+use Rattle.vr_world.specs.declared.events.WorldEvent.TheVariants.{Request}
 use Rattle.vr_world.specs.declared.words.ReplyBy.{ReplyBy}
 use Rattle.vr_world.specs.Committed.{IsChosen, committed}
 use Rattle.vr_world.specs.Law.{IsSize}
@@ -22,7 +23,7 @@ use Rattle.dir_lab.specs.Exact.{IsExact}
 use Rattle.dir_lab.specs.Shown.{Shown, Replied, Unavailable, NotYet, Answered}
 use Rattle.dir_lab.specs.Schedule.{happenings, shown_by}
 use Rattle.dir_lab.specs.declared.events.LabEvent.{LabEvent}
-use Rattle.dir_lab.specs.declared.events.LabEvent.TheVariants.{Search}
+use Rattle.dir_lab.specs.declared.events.LabEvent.TheVariants.{Happens, Search}
 
 -- what is committed in the world after a schedule
 abbrev pub committed_by : ℕ → List LabEvent → List (LogEntry OpValue)
@@ -91,9 +92,15 @@ abbrev pub RepliesAreOfCommitted : SchemaModel → List RdnModel → ℕ → Lis
 RepliesAreOfCommitted s root n es shown = IsSize n → (t : ReplyBy) (code : ℕ) → In (Replied t code) shown →
     IsReplyOf s root (committed_by n es) t code
 
+-- The schedule has this request, at one of n replicas: its client, its number and its update.
+pub record IsRequested (n : ℕ) (es : List LabEvent) (e : LogEntry OpValue) : Type 0 where
+  pub replica : ℕ
+  pub there : replica < n
+  pub asked : In (Happens (Request replica e)) es
+
 -- What is committed after a schedule is one list: it begins with each list that is chosen in any view, of which one
--- begins with the other; it only grows; it begins with what each replica has committed, which its log has; and each
--- client's request numbers rise along it.
+-- begins with the other; it only grows; it begins with what each replica has committed, which its log has; each
+-- client's request numbers rise along it; and each record of it is a request of the schedule.
 pub record CommittedIsOne (n : ℕ) (es : List LabEvent) : Type 0 where
   pub agree : (a b : List (LogEntry OpValue)) → IsChosen n (after n (happenings es)).messages a →
       IsChosen n (after n (happenings es)).messages b → IsPrefix a b ⊎ IsPrefix b a
@@ -106,3 +113,4 @@ pub record CommittedIsOne (n : ℕ) (es : List LabEvent) : Type 0 where
   pub held : (i : ℕ) (r : State OpValue) → (after n (happenings es)).replicas i ≡ Some r →
       r.commit_number ≤ length r.log
   pub rising : Rising (committed_by n es)
+  pub asked : (e : LogEntry OpValue) → In e (committed_by n es) → IsRequested n es e

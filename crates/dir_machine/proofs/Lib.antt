@@ -10,5 +10,6 @@ pub mod Starts
 pub mod Handled
 pub mod Asks
 pub mod Looks
+pub mod Requested
 pub mod Played
 pub mod Asked

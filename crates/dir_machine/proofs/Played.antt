@@ -13,7 +13,7 @@ use Rattle.vr_state.specs.State.{first}
 use Rattle.vr_state.specs.StepLaw.{LatestIsOfClient}
 use Rattle.vr_state.specs.Words.{Client}
 use Rattle.vr_state.specs.declared.event.Event.{Event}
-use Rattle.vr_world.proofs.Laws.{chosen_lists_agree, committed_grows, committed_is_longest, commits_are_held, numbers_rise, replicas_agree}
+use Rattle.vr_world.proofs.Laws.{chosen_lists_agree, committed_grows, committed_is_longest, committed_was_asked, commits_are_held, numbers_rise, replicas_agree}
 use Rattle.vr_world.proofs.Holding.{majorities_hold}
 use Rattle.vr_world.specs.Law.{IsSize, TakesPart}
 use Rattle.vr_world.specs.World.{World, after, run, start}
@@ -24,6 +24,7 @@ use Rattle.dir_machine.proofs.Asks.{answered_on, told_on}
 use Rattle.dir_machine.proofs.Gives.{Acted, MayEnd, down_not_up, ended_on, given_on, may_all, may_one, unborn_not_up}
 use Rattle.dir_machine.proofs.Processes.{IsQuiet, not_missing, played_on, stands_on, stands_still, takes_part}
 use Rattle.dir_machine.proofs.Looks.{compared_on, searched_on}
+use Rattle.dir_machine.proofs.Requested.{turn_given}
 use Rattle.dir_machine.proofs.Starts.{MayStart, started_on}
 use Rattle.dir_machine.proofs.Worlds.{IsReached}
 use Rattle.dir_machine.specs.Happening.{IsMissing, IsOneMissing, MayHappen}
@@ -283,6 +284,9 @@ whole m schedule processes shown size p = record {
   happened = p.happened;
   in_turn = p.in_turn;
   committed = committed_is_one m.count size (joined p.happened);
+  asked = λ e k. let a = committed_was_asked m.count size (joined p.happened) e k in
+      turn_given (arc_value m.schema) m.suffix m.count m.journaled a.replica e [] schedule shown p.happened
+      (start m.count) p.in_turn a.asked;
   kept = kept_by_majorities m schedule processes shown size p;
 }
 

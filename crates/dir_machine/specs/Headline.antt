@@ -3,7 +3,7 @@ use Rattle.std.specs.Prelude.{◌≡◌, ◌⊎◌, ◌<◌, ◌≤◌, ◌/◌,
 use Rattle.state_machine.specs.dir_store.ldap_dn.Names.{RdnModel}
 use Rattle.state_machine.specs.dir_store.ldap_op.Values.{OpValue}
 use Rattle.state_machine.specs.dir_store.ldap_schema.Schema.{SchemaModel}
-use Rattle.vr_state.specs.Lists.{IsPrefix, Rising}
+use Rattle.vr_state.specs.Lists.{In, IsPrefix, Rising}
 use Rattle.vr_state.specs.Outcome.{count, indices}
 use Rattle.vr_state.specs.State.{State}
 use Rattle.vr_state.specs.Words.{LogEntry}
@@ -13,7 +13,10 @@ use Rattle.vr_world.specs.World.{after, start}
 use Rattle.vr_world.specs.declared.events.WorldEvent.{WorldEvent}
 use Rattle.dir_machine.specs.Happening.{HappenInTurn}
 use Rattle.dir_machine.specs.Shown.{stage, up}
+use Rattle.dir_machine.specs.declared.events.Given.{Given}
+use Rattle.dir_machine.specs.declared.events.Given.TheVariants as given
 use Rattle.dir_machine.specs.declared.events.MachineEvent.{MachineEvent}
+use Rattle.dir_machine.specs.declared.events.MachineEvent.TheVariants.{Give, GiveAll}
 use Rattle.dir_machine.specs.declared.replies.MachineReply.{MachineReply}
 
 -- All of these lists, one after another.
@@ -48,11 +51,24 @@ abbrev pub MajoritiesKeep : ℕ → List MachineReply → List (WorldEvent OpVal
 MajoritiesKeep n shown es = (quorum : ℕ → Bool) → n / 2 < count quorum (indices n) →
     ((j : ℕ) → quorum j ≡ true → (j < n) × (stage shown j ≡ up)) → IsHeld (after n es) (committed_after n es)
 
+-- What a node is given at an event of a schedule.
+abbrev pub given_at : MachineEvent → List Given
+given_at (Give i g) = g ∷ []
+given_at (GiveAll i gs) = gs.items
+given_at _ = []
+
+-- The schedule gives some node this request: its client, its number and its update.
+pub record WasGiven (schedule : List MachineEvent) (e : LogEntry OpValue) : Type 0 where
+  pub event : MachineEvent
+  pub scheduled : In event schedule
+  pub request : In (given.Request e) (given_at event)
+
 -- There is one list of what happened in the world: the schedule gives it in turn, as what is shown says, and what is
--- committed after it is one list, which journals keep.
+-- committed after it is one list, which journals keep. Each committed record is a request that the schedule gave.
 pub record IsWhole (s : SchemaModel) (root : List RdnModel) (n : ℕ) (journaled : Bool) (schedule : List MachineEvent)
     (shown : List MachineReply) : Type 0 where
   pub happened : List (List (WorldEvent OpValue))
   pub in_turn : HappenInTurn s root n journaled [] schedule shown happened (start n)
   pub committed : CommittedIsOneList n (joined happened)
+  pub asked : (e : LogEntry OpValue) → In e (committed_after n (joined happened)) → WasGiven schedule e
   pub kept : journaled ≡ true → MajoritiesKeep n shown (joined happened)

@@ -1,7 +1,8 @@
 -- A message whose records can be spelled says what is written of it.
-use Rattle.std.proofs.Common.{◌≡◌, ◌<◌, ◌≤◌, ◌^◌, ℕ, zero, suc, ◌+◌, List, [], ◌∷◌, inl, inr, length, take, get_or, Option, Some, None, refl, sym, subst, arith, length-map, map, Result, Ok, Err}
+use Rattle.std.proofs.Common.{◌≡◌, ◌≤◌, ℕ, List, [], ◌∷◌, inl, inr, length, Option, Some, None, IfOk, Vec, refl, subst, arith, Result, Ok, Err}
 use Rattle.std.proofs.lemmas.Bool.{cases_lt}
-use Rattle.std.proofs.lemmas.List.{take_all}
+use Rattle.std.proofs.lemmas.List.{length-map}
+use Rattle.std.specs.Global.{Global}
 use Rattle.std.specs.List.{AllByRecursion}
 use Rattle.ldap_op.specs.Values.{OpValue}
 use Rattle.view_store.specs.Cluster.{IsCluster}
@@ -10,11 +11,14 @@ use Rattle.vr_state.specs.declared.message.PeerMessage.{PeerMessage}
 use Rattle.vr_state.specs.declared.message.PeerMessage.TheVariants.{Prepare, PrepareOk, Commit, StartViewChange, DoViewChange, StartView, GetState}
 use Rattle.vr_state.specs.declared.message.PeerMessage.TheVariants.{NewState, Recovery, RecoveryResponse}
 use Rattle.vr_state.specs.declared.message.Snapshot.{Snapshot}
-use Rattle.vr_wire.specs.Frames.{AreEntriesInRange, IsHeldInRange, IsInRange, IsLogInRange, IsPerhapsInRange, frame_octets, limit}
+use Rattle.vr_wire.specs.Frames.{AreEntriesInRange, IsInRange, IsLogInRange, IsPerhapsInRange, frame_octets, limit}
 use Rattle.vr_wire.specs.Laws.{AreUpdatesInRange, perhaps_records, records_of}
 use Rattle.vr_wire.specs.Parts.{AreFramesOf, IsSaying, TellMessage, saying_octets}
-use Rattle.vr_wire.specs.Payloads.{AreEntriesOf, IsFrame, IsHeldOf, IsMessageOf, IsPerhapsOf, written, written_entry, written_held, written_log, written_perhaps}
-use Rattle.vr_wire.specs.private.Fitting.{CanBeSpelled, HeldIs, IsSpelled, LogIs, MessageIs, PerhapsIs}
+use Rattle.vr_wire.specs.Payloads.{AreEntriesOf, IsFrame, IsMessageOf, IsPerhapsOf, written, written_entry, written_log, written_perhaps}
+use Rattle.vr_wire.specs.declared.error.WireError.{WireError}
+use Rattle.vr_wire.specs.private.Fitting.{CanBeSpelled, IsSpelled, LogIs, MessageIs, PerhapsIs}
+use Rattle.vr_wire.specs.private.Parts.{CutsFrames}
+use Rattle.vr_wire.specs.private.Putting.{Writes}
 
 -- ---- what is spelled is in range
 
@@ -28,7 +32,7 @@ entries_are (e ∷ es) h =
     (record { client = refl; request_number = refl; payload = h.0.payload }, entries_are es h.1)
 
 log_range : (es : List (LogEntry OpValue)) → LogIs IsSpelled es → IsLogInRange (written_log es)
-log_range es h = (omega (arith, h.0, length-map written_entry es), entries_range es h.1)
+log_range es h = (omega (arith, h.0, length-map es written_entry), entries_range es h.1)
 
 perhaps_range : (o : Option (Snapshot OpValue)) → PerhapsIs IsSpelled o → IsPerhapsInRange (written_perhaps o)
 perhaps_range None h = tt
@@ -75,7 +79,7 @@ entries_can [] h u = tt
 entries_can (e ∷ es) h u = (record { range = h.0; update = u.0 }, entries_can es h.1 u.1)
 
 log_can : (es : List (LogEntry OpValue)) → IsLogInRange (written_log es) → AreUpdatesInRange es → LogIs CanBeSpelled es
-log_can es h u = (omega (arith, h.0, length-map written_entry es), entries_can es h.1 u)
+log_can es h u = (omega (arith, h.0, length-map es written_entry), entries_can es h.1 u)
 
 perhaps_can : (o : Option (Snapshot OpValue)) → IsPerhapsInRange (written_perhaps o) →
     AreUpdatesInRange (perhaps_records o) → PerhapsIs CanBeSpelled o
@@ -129,23 +133,20 @@ frames_tell most size cluster sender number m frames is h are =
     plain one = frame_is cluster sender m (frame_octets cluster sender (written m)) is h refl
         (subst (AllByRecursion (λ f. length f ≤ limit)) one are.small).0
 
--- ---- records one after the other
+-- ---- what is made of a message that can be spelled
 
--- one more,
-pub all_more : {X : Type 0} (Q : X → Type 0) (xs : List X) (i : ℕ) (d : X) → i < length xs → d ≡ get_or xs i d →
-    AllByRecursion Q (take i xs) → Q d → AllByRecursion Q (take (i + 1) xs)
-all_more Q [] i d lt is h q = absurd (omega (arith, lt))
-all_more Q (x ∷ xs) zero d lt is h q = (subst Q is q, tt)
-all_more Q (x ∷ xs) (suc i) d lt is h q = (h.0, all_more Q xs i d (omega (arith, lt)) is h.1 q)
+-- What is written is a frame of it,
+pub frame_made : (cluster sender : ℕ) (m : PeerMessage OpValue) (r : Result (Vec ℕ Global) WireError) →
+    IsCluster cluster → MessageIs IsSpelled m →
+    Writes (λ (v : Vec ℕ Global). v.items) r (frame_octets cluster sender (written m)) →
+    IfOk r (λ v. length v.items ≤ limit) → IfOk r (λ v. IsFrame cluster sender m v.items)
+frame_made cluster sender m (Ok v) is h spelled small = frame_is cluster sender m v.items is h spelled small
+frame_made cluster sender m (Err e) is h spelled small = tt
 
--- all of them,
-pub all_done : {X : Type 0} (Q : X → Type 0) (xs : List X) (i : ℕ) → length xs ≤ i → AllByRecursion Q (take i xs) →
-    AllByRecursion Q xs
-all_done Q xs i le h = subst (AllByRecursion Q) (take_all i xs le) h
-
--- and one of them.
-pub all_at : {X : Type 0} (Q : X → Type 0) (xs : List X) (i : ℕ) (d : X) → i < length xs → d ≡ get_or xs i d →
-    AllByRecursion Q xs → Q d
-all_at Q [] i d lt is h = absurd (omega (arith, lt))
-all_at Q (x ∷ xs) zero d lt is h = subst Q (sym is) h.0
-all_at Q (x ∷ xs) (suc i) d lt is h = all_at Q xs i d (omega (arith, lt)) is h.1
+-- and the frames tell it.
+pub frames_made : (most size cluster sender number : ℕ) (m : PeerMessage OpValue)
+    (r : Result (List (List ℕ)) WireError) → IsCluster cluster → MessageIs IsSpelled m →
+    CutsFrames most size cluster sender number (written m) r → IfOk r (TellMessage cluster sender number m)
+frames_made most size cluster sender number m (Ok frames) is h made = frames_tell most size cluster sender number m
+    frames is h made
+frames_made most size cluster sender number m (Err e) is h made = tt
