@@ -9,7 +9,7 @@ use crate::octets::Octets;
 use vr_state::words::{Client, LogEntry};
 
 /// The end of the numbers that a frame holds.
-const NUMBER_END: u64 = 1 << 63;
+pub const NUMBER_END: u64 = 1 << 63;
 
 #[tactic(auto, unfolding(crate::specs::private::Cutting::cut_octet))]
 pub fn cut_octet(octets: &[u8]) -> Result<(u8, &[u8]), WireError>

@@ -7,20 +7,18 @@ ghost use Rattle.vr_state.specs.declared.message.PeerMessage.TheVariants as kind
 ghost use Rattle.vr_wire.specs.Frames.{IsClientInRange};
 ghost use Rattle.vr_wire.specs.private.Fitting.{CanBeSpelled, HeldIs, IsSpelled, LogIs, MessageIs, PerhapsIs};
 
+use crate::cutting::NUMBER_END;
 use crate::putting::MAX_COUNT;
 use ldap_op::Op;
 use vr_state::message::{Change, PeerMessage, Response, Snapshot};
 use vr_state::words::{Client, LogEntry};
-
-/// Numbers below this are spelled.
-const TOO_GREAT: u64 = 0x8000_0000_0000_0000;
 
 /// Whether two numbers are in range.
 fn two_fit(first: u64, second: u64) -> bool
     ensures fits { IsTrue result → (first < 2 ^ 63) × (second < 2 ^ 63) }
     ensures lacks { IsFalse result → (first < 2 ^ 63) × (second < 2 ^ 63) → ⊥ }
 {
-    first < TOO_GREAT && second < TOO_GREAT
+    first < NUMBER_END && second < NUMBER_END
 }
 
 /// Whether a client's numbers are in range, and one that names itself has no life.
@@ -47,7 +45,7 @@ fn entry_fits(entry: &LogEntry<Op>) -> bool
     ensures fits { IsTrue result → IsSpelled entry.now }
     ensures lacks { IsFalse result → CanBeSpelled entry.now → ⊥ }
 {
-    client_fits(entry.client) && entry.request_number < TOO_GREAT && payload_fits(&entry.payload)
+    client_fits(entry.client) && entry.request_number < NUMBER_END && payload_fits(&entry.payload)
 }
 
 /// Whether each of these records can be spelled.
@@ -76,7 +74,7 @@ fn held_fits(held: &Snapshot<Op>) -> bool
     ensures fits { IsTrue result → HeldIs IsSpelled held.now }
     ensures lacks { IsFalse result → HeldIs CanBeSpelled held.now → ⊥ }
 {
-    held.commit_number < TOO_GREAT && log_fits(held.log.as_slice())
+    held.commit_number < NUMBER_END && log_fits(held.log.as_slice())
 }
 
 /// Whether a log that may be missing can be spelled.
@@ -94,14 +92,14 @@ fn prepare_fits(view_number: u64, entry: &LogEntry<Op>, op_number: u64, commit_n
     ensures fits { IsTrue result → MessageIs IsSpelled (kind.Prepare view_number entry.now op_number commit_number) }
     ensures lacks { IsFalse result → MessageIs CanBeSpelled (kind.Prepare view_number entry.now op_number commit_number) → ⊥ }
 {
-    view_number < TOO_GREAT && two_fit(op_number, commit_number) && entry_fits(entry)
+    view_number < NUMBER_END && two_fit(op_number, commit_number) && entry_fits(entry)
 }
 
 fn change_fits(view_number: u64, change: &Change<Op>) -> bool
     ensures fits { IsTrue result → MessageIs IsSpelled (kind.DoViewChange view_number change.now) }
     ensures lacks { IsFalse result → MessageIs CanBeSpelled (kind.DoViewChange view_number change.now) → ⊥ }
 {
-    view_number < TOO_GREAT
+    view_number < NUMBER_END
         && two_fit(change.last_normal_view, change.commit_number)
         && log_fits(change.log.as_slice())
 }
@@ -110,7 +108,7 @@ fn start_view_fits(view_number: u64, held: &Snapshot<Op>) -> bool
     ensures fits { IsTrue result → MessageIs IsSpelled (kind.StartView view_number held.now) }
     ensures lacks { IsFalse result → MessageIs CanBeSpelled (kind.StartView view_number held.now) → ⊥ }
 {
-    view_number < TOO_GREAT && held_fits(held)
+    view_number < NUMBER_END && held_fits(held)
 }
 
 fn new_state_fits(view_number: u64, base: u64, tail: &Snapshot<Op>) -> bool
@@ -147,7 +145,7 @@ pub fn message_fits(message: &PeerMessage<Op>) -> bool
             view_number,
             commit_number,
         } => two_fit(*view_number, *commit_number),
-        PeerMessage::StartViewChange { view_number } => *view_number < TOO_GREAT,
+        PeerMessage::StartViewChange { view_number } => *view_number < NUMBER_END,
         PeerMessage::DoViewChange {
             view_number,
             change,
@@ -162,7 +160,7 @@ pub fn message_fits(message: &PeerMessage<Op>) -> bool
             base,
             tail,
         } => new_state_fits(*view_number, *base, tail),
-        PeerMessage::Recovery { nonce } => *nonce < TOO_GREAT,
+        PeerMessage::Recovery { nonce } => *nonce < NUMBER_END,
         PeerMessage::RecoveryResponse { nonce, response } => response_fits(*nonce, response),
     }
 }
