@@ -8,7 +8,8 @@ use thiserror::Error;
 /// A refusal of the wire between replicas.
 #[derive(Clone, Copy, Debug, PartialEq, Eq, Error)]
 pub enum WireError {
-    /// The octets are no frame, or the frame is over the limit.
+    /// The octets are no frame; or the message has none: its frame would be over the limit, or a number or an update of
+    /// it has no octets.
     #[error("E20: no frame")]
     BadFrame,
     /// The octets are a frame of another cluster.
