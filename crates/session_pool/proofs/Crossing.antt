@@ -7,14 +7,13 @@ use Rattle.std.proofs.Crossing.{crosses}
 use Rattle.std.proofs.sync.Condvar.TheSendSync as condvar
 use Rattle.std.proofs.sync.Mutex.TheSendSync as mutex
 use Rattle.std.proofs.sync.atomic.AtomicBool.TheSendSync as flag
-use Rattle.std.proofs.sync.atomic.AtomicUsize.TheSendSync as count
 use Rattle.std.proofs.time.Instant.TheSendSync as instant
-use Rattle.mio.proofs.poll.Registry.TheSendSync as registry
-use Rattle.mio.proofs.waker.Waker.TheSendSync as waker
 use Rattle.client_link.proofs.Config.TheSendSync as config
 use Rattle.client_link.proofs.Door.TheSendSync as door
 use Rattle.session_turns.proofs.Budget.TheSendSync as budget
+use Rattle.session_pool.proofs.overview.Overview.TheSendSync as overview
 use Rattle.session_pool.proofs.pool.Watch.TheSendSync as watch
+use Rattle.session_pool.proofs.watching.Watcher.TheSendSync as watcher
 use Rattle.session_pool.specs.contracts.pool.SessionPool as SessionPool
 use Rattle.session_table.proofs.Crossing.{table_send}
 
@@ -33,37 +32,22 @@ pool_sync a R T y z =
             (
               search (config.the_field_sync, crosses, sendable) depth 40 fits 20000,
               (
-                search (registry.the_field_sync, crosses, sendable) depth 20,
+                search (watcher.the_field_sync, crosses, sendable) depth 20,
                 (
-                  search (waker.the_field_sync, crosses, sendable) depth 20,
+                  search (watch.the_send, mutex.the_sync, sendable) depth 20,
                   (
-                    search (watch.the_send, mutex.the_sync, sendable) depth 20,
+                    search (table_send, mutex.the_sync, sendable) depth 20,
                     (
-                      search (table_send, mutex.the_sync, sendable) depth 20,
+                      condvar.the_field_sync,
                       (
                         condvar.the_field_sync,
                         (
-                          condvar.the_field_sync,
+                          search (flag.the_sync, crosses, sendable) depth 20,
                           (
-                            search (flag.the_sync, crosses, sendable) depth 20,
+                            search (budget.the_sync, crosses, sendable) depth 20,
                             (
-                              search (budget.the_sync, crosses, sendable) depth 20,
-                              (
-                                search (count.the_field_sync, crosses, sendable) depth 20,
-                                (
-                                  search (count.the_field_sync, crosses, sendable) depth 20,
-                                  (
-                                    search (crosses, sendable) depth 20,
-                                    (
-                                      search (flag.the_field_sync, crosses, sendable) depth 20,
-                                      (
-                                        search (crosses, sendable) depth 20,
-                                        (search (instant.the_field_sync, crosses, sendable) depth 20, tt),
-                                      ),
-                                    ),
-                                  ),
-                                ),
-                              ),
+                              search (overview.the_field_sync, crosses, sendable) depth 20,
+                              (search (instant.the_field_sync, crosses, sendable) depth 20, tt),
                             ),
                           ),
                         ),

@@ -91,6 +91,6 @@ impl<'a, R: Wait + Clock, T: SessionObserver> SessionPool<'a, R, T> {
                 }
             }
         }
-        let _ = self.waker.wake();
+        self.watcher.wake();
     }
 }

@@ -12,9 +12,8 @@ use crate::pool::SessionPool;
 use crate::tells::SessionObserver;
 use client_link::{Config, Directory, Due};
 use session_table::{Destination, PooledSession, ReadOutcome, Then, Turn, destination_of};
-use session_turns::{After, Queue, Seen, follows};
+use session_turns::After;
 use std::sync::Wait;
-use std::sync::atomic::Ordering;
 use std::time::{Clock, Duration, Instant};
 
 /// How many octets are read at once, at most.
@@ -89,25 +88,15 @@ fn is_within<R: Clock>(rt: &R, since: Instant, limit: u64) -> bool {
 }
 
 impl<'a, R: Wait + Clock, T: SessionObserver> SessionPool<'a, R, T> {
-    /// What a thread does behind a message of its stay.
-    fn what_follows(&self, stay: &Stay, now: u64) -> After {
-        let seen = Seen {
-            ready: self.queued.load(Ordering::SeqCst),
-            is_led: self.is_led.load(Ordering::SeqCst),
-            looked: self.looked.load(Ordering::SeqCst),
-        };
-        follows(seen, now, stay.begun)
-    }
-
     /// Behind a message: looks which sockets are ready where that is due, and ends the stay where others are.
     fn look_around(&self, stay: &mut Stay) {
         let now = self.micros();
-        let mut after = self.what_follows(stay, now);
+        let mut after = self.overview.what_follows(now, stay.begun);
         if after == After::Looks {
             self.look();
             let looked = self.micros();
             stay.set_apart(now, looked);
-            after = self.what_follows(stay, looked);
+            after = self.overview.what_follows(looked, stay.begun);
         }
         if after == After::Ends {
             stay.is_over = true;
@@ -193,15 +182,11 @@ impl<'a, R: Wait + Clock, T: SessionObserver> SessionPool<'a, R, T> {
         stay.turns = stay.turns.saturating_add(1);
         if stay.turns >= TURNS {
             stay.turns = 0;
-            if self.queued.load(Ordering::SeqCst) > 0 || self.door.is_closed() {
+            if self.overview.has_ready() || self.door.is_closed() {
                 return false;
             }
         }
-        if self.lingering.fetch_add(1, Ordering::SeqCst) >= self.most {
-            self.lingering.fetch_sub(1, Ordering::SeqCst);
-            return false;
-        }
-        true
+        self.overview.begin_wait()
     }
 
     /// Waits for the next octets of a quick session.
@@ -211,7 +196,7 @@ impl<'a, R: Wait + Clock, T: SessionObserver> SessionPool<'a, R, T> {
     {
         let since = self.micros();
         let heard = pooled.hear(buffer, self);
-        self.lingering.fetch_sub(1, Ordering::SeqCst);
+        self.overview.end_wait();
         let now = self.micros();
         stay.set_apart(since, now);
         pooled.is_quick = match heard {

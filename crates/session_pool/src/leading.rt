@@ -3,9 +3,8 @@ use crate::leaving::FAREWELL;
 use crate::pool::{SessionPool, Watch};
 use crate::tells::SessionObserver;
 use client_link::SessionEnd;
+use mio::Token;
 use mio::event::Event;
-use mio::unix::SourceFd;
-use mio::{Interest, Token};
 use session_table::{ClientState, NoteOutcome, PooledSession, Table, Turn, place_in, token_of};
 use session_turns::{Act, Call, Queue, Was};
 use std::sync::Wait;
@@ -28,15 +27,6 @@ fn part_of(limit: Duration) -> Duration {
         .checked_div(PART)
         .unwrap_or(limit)
         .max(Duration::from_millis(1))
-}
-
-/// What the poll looks for at the socket of a session that waits in a queue; nothing, where no socket ends its wait.
-fn interest_in(queue: Queue) -> Option<Interest> {
-    match queue {
-        Queue::Unsent => Some(Interest::WRITABLE),
-        Queue::Silent | Queue::Inside | Queue::Leaving => Some(Interest::READABLE),
-        Queue::Delayed => None,
-    }
 }
 
 /// What an event says of a client whose update waits, if anything.
@@ -77,23 +67,10 @@ impl<'a, R: Wait + Clock, T: SessionObserver> SessionPool<'a, R, T> {
         if let Err(pooled) = table.park(pooled, queue) {
             return Some(pooled);
         }
-        if self.watch(fd, token, interest_in(queue)) {
+        if self.watcher.watch(fd, token, queue) {
             None
         } else {
             table.wake(place)
-        }
-    }
-
-    /// Has a socket watched; whether that can be done. None is where nothing is looked for.
-    fn watch(&self, fd: i32, token: usize, interest: Option<Interest>) -> bool {
-        match interest {
-            Some(interest) => {
-                let watched = self
-                    .registry
-                    .register(&mut SourceFd(&fd), Token(token), interest);
-                watched.is_ok()
-            }
-            None => true,
         }
     }
 
@@ -117,20 +94,12 @@ impl<'a, R: Wait + Clock, T: SessionObserver> SessionPool<'a, R, T> {
         }
     }
 
-    /// What seats that answer see of the table, without its lock.
-    fn show(&self, table: &Table) {
-        self.queued.store(table.ready(), Ordering::SeqCst);
-        self.is_led.store(table.lead.is_led(), Ordering::SeqCst);
-    }
-
     /// Calls whom a thread has to call.
     fn call(&self, call: Call) {
         match call {
             Call::Nobody => {}
             Call::Seat => self.turn.notify_one(),
-            Call::Leader => {
-                let _ = self.waker.wake();
-            }
+            Call::Leader => self.watcher.wake(),
         }
     }
 
@@ -143,7 +112,7 @@ impl<'a, R: Wait + Clock, T: SessionObserver> SessionPool<'a, R, T> {
         let mut table = self.table.lock(self.rt);
         match table.queue(pooled, now) {
             Ok(call) => {
-                self.show(&table);
+                self.overview.show(&table);
                 drop(table);
                 self.call(call);
             }
@@ -170,7 +139,7 @@ impl<'a, R: Wait + Clock, T: SessionObserver> SessionPool<'a, R, T> {
             drop(table);
             return self.end(pooled, SessionEnd::NoMemory);
         }
-        self.watch(fd, token, Some(Interest::READABLE));
+        self.watcher.watch_end(fd, token);
         drop(table);
         self.work.notify_one();
     }
@@ -181,11 +150,10 @@ impl<'a, R: Wait + Clock, T: SessionObserver> SessionPool<'a, R, T> {
         let Some((fd, turn)) = table.rouse(place, now, self.micros_at(now)) else {
             return false;
         };
-        let _ = self.registry.deregister(&mut SourceFd(&fd));
+        self.watcher.forget(fd);
         if turn == Turn::Update {
-            // It is registered anew, so that what the poll has told of its client is told again.
             if let Some(token) = table.token_at(place) {
-                self.watch(fd, token, Some(Interest::READABLE));
+                self.watcher.watch_end(fd, token);
             }
             self.work.notify_one();
         }
@@ -226,16 +194,31 @@ impl<'a, R: Wait + Clock, T: SessionObserver> SessionPool<'a, R, T> {
                 self.note(&mut table, event, now);
             }
         }
-        self.show(&table);
+        self.overview.show(&table);
     }
 
-    /// Ends the sessions that have waited for too long in a queue.
-    fn expire(&self, queue: Queue, limit: Duration, now: Instant, end: SessionEnd) {
+    /// Takes the sessions out of a queue that have waited there for so long.
+    fn expire(&self, queue: Queue, limit: Duration, now: Instant) {
         for _ in self.rt.forever() {
             let overdue = self.table.lock(self.rt).overdue(queue, limit, now);
             match overdue {
-                Some(pooled) => self.end(pooled, end),
+                Some(pooled) => self.release(pooled, queue),
                 None => break,
+            }
+        }
+    }
+
+    /// A session has waited in a queue for as long as it may: one that is over is closed, a bind has waited for long
+    /// enough, and any other session ends.
+    fn release(&self, mut pooled: PooledSession, queue: Queue) {
+        match queue {
+            Queue::Leaving => self.close(pooled),
+            Queue::Delayed => {
+                pooled.allow_bind();
+                self.queue(pooled);
+            }
+            Queue::Silent | Queue::Inside | Queue::Unsent => {
+                self.end(pooled, SessionEnd::ReadFailed);
             }
         }
     }
@@ -264,39 +247,12 @@ impl<'a, R: Wait + Clock, T: SessionObserver> SessionPool<'a, R, T> {
         }
     }
 
-    /// Closes the sockets of sessions that were over for long enough.
-    fn close_overdue(&self, now: Instant) {
-        let limit = Duration::from_millis(FAREWELL);
-        for _ in self.rt.forever() {
-            let overdue = self.table.lock(self.rt).overdue(Queue::Leaving, limit, now);
-            match overdue {
-                Some(pooled) => self.close(pooled),
-                None => break,
-            }
-        }
-    }
-
     /// Lets the updates go whose clients have sent no more for too long.
     fn leave_all(&self, limit: Duration, now: Instant) {
         let mut table = self.table.lock(self.rt);
         for _ in self.rt.forever() {
             match table.gone(limit, now) {
                 Some(thread) => self.leave(thread),
-                None => break,
-            }
-        }
-    }
-
-    /// Lines up the sessions whose next message has waited for long enough.
-    fn release_delayed(&self, now: Instant) {
-        let limit = Duration::from_millis(DELAY);
-        for _ in self.rt.forever() {
-            let overdue = self.table.lock(self.rt).overdue(Queue::Delayed, limit, now);
-            match overdue {
-                Some(mut pooled) => {
-                    pooled.allow_bind();
-                    self.queue(pooled);
-                }
                 None => break,
             }
         }
@@ -317,8 +273,7 @@ impl<'a, R: Wait + Clock, T: SessionObserver> SessionPool<'a, R, T> {
 
     /// The socket of a session whose update waits no more is watched no more.
     pub fn unwatch_end(&self, pooled: &PooledSession) {
-        let fd = pooled.fd();
-        let _ = self.registry.deregister(&mut SourceFd(&fd));
+        self.watcher.forget(pooled.fd());
     }
 
     /// How long the leader may wait: not at all where sessions are ready; else until one has waited for too long, but
@@ -353,11 +308,11 @@ impl<'a, R: Wait + Clock, T: SessionObserver> SessionPool<'a, R, T> {
         };
         let limits = self.door.limits();
         self.rouse_all(watch, now);
-        self.expire(Queue::Inside, limits.message, now, SessionEnd::ReadFailed);
+        self.expire(Queue::Inside, limits.message, now);
         self.expire_unsent(limits.write, now);
-        self.close_overdue(now);
+        self.expire(Queue::Leaving, Duration::from_millis(FAREWELL), now);
         self.leave_all(limits.message, now);
-        self.release_delayed(now);
+        self.expire(Queue::Delayed, Duration::from_millis(DELAY), now);
         self.refuse_overdue(limits.write, now);
     }
 
@@ -369,7 +324,7 @@ impl<'a, R: Wait + Clock, T: SessionObserver> SessionPool<'a, R, T> {
         let _ = poll.poll(events, Some(limit));
         self.attend_all(&*watch);
         drop(watch);
-        self.looked.store(self.micros(), Ordering::SeqCst);
+        self.overview.note_look(self.micros());
         if self.door.is_closed() {
             self.table.lock(self.rt).is_closed = true;
             self.turn.notify_all();
@@ -381,7 +336,7 @@ impl<'a, R: Wait + Clock, T: SessionObserver> SessionPool<'a, R, T> {
     fn begin_look(&self) -> bool {
         let mut table = self.table.lock(self.rt);
         let begins = table.lead.begin_look();
-        self.show(&table);
+        self.overview.show(&table);
         begins
     }
 
@@ -389,7 +344,7 @@ impl<'a, R: Wait + Clock, T: SessionObserver> SessionPool<'a, R, T> {
     fn end_look(&self) -> Call {
         let mut table = self.table.lock(self.rt);
         let call = table.lead.end_look();
-        self.show(&table);
+        self.overview.show(&table);
         call
     }
 
@@ -418,12 +373,12 @@ impl<'a, R: Wait + Clock, T: SessionObserver> SessionPool<'a, R, T> {
                     was = Was::Resting;
                 }
                 Act::Lead => {
-                    self.show(&table);
+                    self.overview.show(&table);
                     return None;
                 }
                 Act::Serve => {
                     let pooled = table.next_ready();
-                    self.show(&table);
+                    self.overview.show(&table);
                     drop(table);
                     self.call(call);
                     return pooled;

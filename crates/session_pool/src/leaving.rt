@@ -3,8 +3,6 @@
 use crate::pool::SessionPool;
 use crate::tells::SessionObserver;
 use client_link::SessionEnd;
-use mio::unix::SourceFd;
-use mio::{Interest, Token};
 use session_table::{Farewell, PooledSession, Table};
 use session_turns::Queue;
 use std::sync::Wait;
@@ -77,11 +75,8 @@ impl<'a, R: Wait + Clock, T: SessionObserver> SessionPool<'a, R, T> {
         match table.drop_input(place, &mut buffer) {
             Farewell::Elsewhere => false,
             Farewell::Nothing => true,
-            // The poll tells once of what has come: it is asked again.
             Farewell::AsksAgain(fd, token) => {
-                let _ = self
-                    .registry
-                    .reregister(&mut SourceFd(&fd), Token(token), Interest::READABLE);
+                self.watcher.ask_again(fd, token);
                 true
             }
         }

@@ -52,10 +52,12 @@ mod memory;
 mod no_node;
 mod no_reads;
 mod no_room;
+mod overview;
 mod pool;
 mod running;
 mod tells;
 mod updating;
+mod watching;
 
 pub use client_link::{
     Client, CompareRequest, Config, Directory, Door, Ended, Found, HasDoor, Limits, LookError,

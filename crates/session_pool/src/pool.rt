@@ -1,12 +1,14 @@
 //! A pool: what its threads share.
+use crate::overview::Overview;
+use crate::watching::Watcher;
 use client_link::{Config, Door};
-use mio::{Events, Poll, Registry, Token, Waker};
+use mio::{Events, Poll, Token, Waker};
 use session_table::Table;
 use session_turns::Budget;
 use std::alloc::Global;
 use std::io;
 use std::net::Net;
-use std::sync::atomic::{AtomicBool, AtomicU64, AtomicUsize};
+use std::sync::atomic::AtomicBool;
 use std::sync::{Condvar, Mutex};
 use std::time::{Clock, Instant};
 
@@ -46,9 +48,7 @@ pub struct SessionPool<'a, R, T> {
     pub door: &'a Door,
     pub teller: &'a T,
     pub config: Config<'a>,
-    pub registry: Registry,
-    /// Ends the leader's wait, where nobody else is free.
-    pub waker: Waker,
+    pub watcher: Watcher,
     pub watch: Mutex<Watch>,
     pub table: Mutex<Table>,
     /// Seats wait here for sessions that are ready, and threads that update for updates.
@@ -56,15 +56,7 @@ pub struct SessionPool<'a, R, T> {
     pub work: Condvar,
     pub leaves: &'a [AtomicBool],
     pub budget: &'a Budget,
-    /// Sessions that are ready; seats that wait for the next message of their session.
-    pub queued: AtomicUsize,
-    pub lingering: AtomicUsize,
-    /// How many seats may wait so: one is left to lead.
-    pub most: usize,
-    /// Whether a seat waits for sockets or looks at them, and when one last looked, in microseconds since the pool
-    /// began. Seats that answer read this, and how many sessions are ready, without the table's lock.
-    pub is_led: AtomicBool,
-    pub looked: AtomicU64,
+    pub overview: Overview,
     pub start: Instant,
 }
 
@@ -88,19 +80,14 @@ impl<'a, R: Net + Clock, T> SessionPool<'a, R, T> {
             door,
             teller,
             config: terms.config,
-            registry,
-            waker,
+            watcher: Watcher::new(registry, waker),
             watch: Mutex::new(Watch { poll, events }),
             table: Mutex::new(table),
             turn: Condvar::new(),
             work: Condvar::new(),
             leaves: terms.leaves,
             budget: terms.budget,
-            queued: AtomicUsize::new(0),
-            lingering: AtomicUsize::new(0),
-            most: terms.seats.saturating_sub(1),
-            is_led: AtomicBool::new(false),
-            looked: AtomicU64::new(0),
+            overview: Overview::new(terms.seats),
             start: Instant::now(rt)?,
         })
     }
