@@ -1,6 +1,6 @@
 //! What the threads of a pool share under one lock: the sessions that no thread serves, what they hold, the updates
 //! that wait in threads, and whose turn it is.
-ghost use Rattle.std.specs.Prelude.{◌≡◌, [], None, Some, IfOk, IfErr, OnOk, OnErr, IfSome, IfNone, IsFalse, ◌↔◌, replicate, slice_set};
+ghost use Rattle.std.specs.Prelude.{◌≡◌, ℕ, [], None, Some, Err, IfOk, IfErr, OnOk, OnErr, IfSome, IfNone, IsFalse, ◌↔◌, replicate, slice_set};
 ghost use Rattle.std.specs.Option.{option_map};
 ghost use Rattle.session_turns.specs.Holding.{IsRather, NoneRather};
 ghost use Rattle.session_turns.specs.Places.{IsIn, NoneIn};
