@@ -5,7 +5,7 @@ use Rattle.dir_node.specs.Logged.{LeavesOnlyIn, LeavesTold, device_in}
 use Rattle.dir_node.specs.NodeState.{head}
 use Rattle.dir_node.specs.log_journal.Batches.{OneIsTold}
 use Rattle.dir_node.specs.log_journal.Taken.{AreSome, MakesSome}
-use Rattle.dir_node.specs.log_journal.Told.{Told, Tells, nothing_told}
+use Rattle.dir_node.specs.log_journal.Told.{Told, nothing_told}
 use Rattle.journal.specs.Memory as journals
 use Rattle.journal.specs.Replay.{counts_now}
 use Rattle.journal.specs.declared.journal.Journal.{Journal}
@@ -20,7 +20,7 @@ use Rattle.vr_state.specs.declared.words.Status.{Status}
 use Rattle.vr_state.specs.declared.words.Status.TheVariants as status
 use Rattle.vr_world.specs.World.{World, kept_of}
 use Rattle.dir_machine.specs.private.Processes.{IsJournalLeft, IsKeptIn, LogsIt, MemoryNode, TellsIn}
-use Rattle.dir_machine.specs.private.Running.{HasKept, IsKeptTold, IsLogOf}
+use Rattle.dir_machine.specs.private.Running.{IsKeptTold, IsLogOf}
 
 -- a status that is recovering isn't normal
 not_normal : (s : Status) → is_recovering s ≡ true → is_normal s ≡ false

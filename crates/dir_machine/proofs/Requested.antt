@@ -56,12 +56,12 @@ module _ (n : ℕ) (before : List MachineReply) (i j : ℕ) (e : LogEntry OpValu
   some_given [] h w t k = absurd (subst (In (Request j e)) t k)
   some_given (g ∷ gs) h w (inl t) k = absurd (subst (In (Request j e)) t k)
   some_given (g ∷ gs) h w (inr (inl t)) k = inr (some_given gs h w t k)
-  some_given (g ∷ gs) h w (inr (inr t)) k = go (some_given gs t.1.0 (happens n w t.0) t.1.3)
-      (subst (In (Request j e)) t.1.1 k)
+  some_given (g ∷ gs) h w (inr (inr t)) k = go (some_given gs t.1 (happens n w t.0) t.4)
+      (subst (In (Request j e)) t.2 k)
     where
-      go : (In (Request j e) t.1.0 → In (given.Request e) gs) → (Request j e ≡ t.0) ⊎ In (Request j e) t.1.0 →
+      go : (In (Request j e) t.1 → In (given.Request e) gs) → (Request j e ≡ t.0) ⊎ In (Request j e) t.1 →
           In (given.Request e) (g ∷ gs)
-      go ih (inl q) = inl (that_is g w t.0 t.1.2 q)
+      go ih (inl q) = inl (that_is g w t.0 t.3 q)
       go ih (inr m) = inr (ih m)
 
   -- before the process ended

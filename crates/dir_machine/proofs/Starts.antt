@@ -4,7 +4,7 @@ use Rattle.std.specs.Arc.{arc_value}
 use Rattle.std.specs.Global.{Global}
 use Rattle.dir_node.specs.Logged.{IsBegun, LeavesOnlyIn}
 use Rattle.dir_node.specs.NodeState.{IsMade, IsOwn, StartLeaves, given as gives, started_pair}
-use Rattle.dir_node.specs.Restarting.{IsRestart, IsRestarted, Restart, RestartLeaves, RestartNotes, change_of, owner_of, recovered, resumed}
+use Rattle.dir_node.specs.Restarting.{IsRestart, IsRestarted, Restart, RestartLeaves, RestartNotes, change_of, owner_of, resumed}
 use Rattle.dir_node.specs.declared.config.NodeConfig.{NodeConfig}
 use Rattle.dir_node.specs.declared.owner.Owner.{Owner}
 use Rattle.dir_node.specs.log_journal.Batches.{OneIsTold}
