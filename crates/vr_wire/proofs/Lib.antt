@@ -13,3 +13,4 @@ pub mod Runs
 pub mod Comes
 pub mod Starts
 pub mod Begin
+pub mod FramesGive

@@ -13,7 +13,7 @@ use Rattle.vr_wire.specs.Heap.{Heap}
 use Rattle.vr_wire.specs.Frames.{IsInRange}
 use Rattle.vr_wire.specs.Payloads.{written}
 use Rattle.vr_wire.specs.Laws.{records_of, AreUpdatesInRange}
-use Rattle.vr_wire.specs.Parts.{IsSaying, IsPart, ArePartsOf, saying_octets}
+use Rattle.vr_wire.specs.Parts.{IsSaying, IsPart, ArePartsOf, TellMessage, saying_octets}
 use Rattle.vr_wire.specs.Gathering.{Takes, TakesAll}
 
 -- what is written of a message in range says it
@@ -34,6 +34,16 @@ PartsGiveMessage =
     (cluster sender number : ℕ) (m : PeerMessage OpValue) (octets : List ℕ) (frames : List (List ℕ))
     (old new : Option Heap) (results : List (Result Came WireError))
     → IsCluster cluster → number < 2 ^ 64 → IsSaying m octets → ArePartsOf cluster sender number octets frames
+    → TakesAll cluster old frames results new → AllByRecursion (λ r. r ≢ Err error.NoMemory) results
+    → (results ≡ message_at_last sender m frames) × (new ≡ None)
+
+-- the frames that tell a message, taken in their order, whatever was gathered before, give it at the last, where memory
+-- suffices
+abbrev pub FramesGiveMessage : Type 0
+FramesGiveMessage =
+    (cluster sender number : ℕ) (m : PeerMessage OpValue) (frames : List (List ℕ)) (old new : Option Heap)
+    (results : List (Result Came WireError))
+    → IsCluster cluster → number < 2 ^ 64 → TellMessage cluster sender number m frames
     → TakesAll cluster old frames results new → AllByRecursion (λ r. r ≢ Err error.NoMemory) results
     → (results ≡ message_at_last sender m frames) × (new ≡ None)
 

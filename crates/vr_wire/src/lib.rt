@@ -40,7 +40,7 @@ pub use gathering::{Came, Gathering};
 pub use headings::heading;
 pub use laws::{is_frame, no_beginning, one_frame};
 pub use ldap_op::Op;
-pub use part_laws::{is_saying, only_parts_give_message, parts_give_message};
+pub use part_laws::{frames_give_message, is_saying, only_parts_give_message, parts_give_message};
 pub use parts::{FrameSizes, Frames};
 pub use reading::{read, rest};
 pub use view_store::Cluster;

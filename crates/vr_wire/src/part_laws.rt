@@ -1,6 +1,6 @@
 //! Laws of messages in parts.
 
-ghost use Rattle.vr_wire.specs.PartLaws.{WrittenIsSaying, PartsGiveMessage, OnlyPartsGiveMessage};
+ghost use Rattle.vr_wire.specs.PartLaws.{WrittenIsSaying, PartsGiveMessage, FramesGiveMessage, OnlyPartsGiveMessage};
 
 use ldap_op::{is_op, one_op};
 
@@ -14,6 +14,13 @@ pub fn is_saying()
 /// The parts of a message, taken in their order, give that message at the last.
 pub fn parts_give_message()
     ensures { PartsGiveMessage }
+{
+    one_op();
+}
+
+/// The frames of a message, its one frame or its parts, taken in their order, give that message at the last.
+pub fn frames_give_message()
+    ensures { FramesGiveMessage }
 {
     one_op();
 }
