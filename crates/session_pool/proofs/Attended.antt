@@ -5,8 +5,11 @@ use Rattle.std.specs.Bool.{OnTrue, OnFalse}
 use Rattle.client_link.specs.directory_api.Talk.{Exchange}
 use Rattle.client_link.specs.session_handler.Session.{ConfigValue}
 use Rattle.client_link.specs.ldap_session.View.{ConversationValue}
+use Rattle.client_link.specs.ldap_session.Conversing.{Continues}
+use Rattle.client_link.specs.ldap_session.declared.due.Step.{Step}
+use Rattle.client_link.specs.Served.{config_of}
 use Rattle.session_table.specs.Attending.{IsSame}
-use Rattle.session_pool.specs.Answering.{AnswersNext, AnswersInTurn, AnswersSome}
+use Rattle.session_pool.specs.Answering.{Answers, AnswersNext, AnswersInTurn, AnswersSome}
 use Rattle.session_pool.specs.Answering as turns
 use Rattle.session_table.specs.declared.pooled.PooledSession.{PooledSession}
 
@@ -34,6 +37,19 @@ module _ {D T : Type 0} (allows : D → Exchange T → D → Type 0) (c : Config
             (subst (λ (g : D). AnswersInTurn allows c v w d g some.count) (sym kept) some.in_turn);
         at_most = omega arith;
       }
+
+-- What is answered under a number that is the session's is answered under the session's own.
+module _ {D T : Type 0} (allows : D → Exchange T → D → Type 0) (shared : ConfigValue) (m n : ℕ) (same : m ≡ n) where
+  pub answers_under : (v w : ConversationValue) (d e : D) (step : Step) → Continues allows (config_of shared m) v w d e
+      step → Answers allows (config_of shared n) v w d e
+  answers_under v w d e step continues = record {
+    step = step;
+    continues = subst (λ (k : ℕ). Continues allows (config_of shared k) v w d e step) same continues;
+  }
+
+  pub some_under : (v w : ConversationValue) (d e : D) (most : ℕ) → AnswersSome allows (config_of shared m) v w d e most →
+      AnswersSome allows (config_of shared n) v w d e most
+  some_under v w d e most some = subst (λ (k : ℕ). AnswersSome allows (config_of shared k) v w d e most) same some
 
 -- a fact for where a test fails, or holds
 pub on_false : {P : Type 0} (b : Bool) → b ≡ false → OnFalse b P → P

@@ -9,4 +9,4 @@ pub returns-in-Some-clause-answers : goal.returns-in-Some-clause-answers
 returns-in-Some-clause-answers g c =
     subst (λ (w : ConversationValue). Answers g.D.Directory.allows (config_view c.args.config.now)
     (talk c.args.pooled.now) w c.args.directory.now c.answer-step.new.directory)
-    (sym c.note_bind.ensures.kept) (record { step = c.answer-step.result; continues = c.answer-step.ensures.continues })
+    (sym c.note_bind.ensures.kept) (record { step = c.answer-step.result; continues = c.answer-step.ensures.answers })
