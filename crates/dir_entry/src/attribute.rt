@@ -20,8 +20,8 @@ use shared_map::Octets;
 use std::alloc::{AllocError, Global};
 use std::marker::Model;
 
-/// An attribute of an entry: a type and its values (RFC 4512 2.2), with the key of each value under the type's EQUALITY rule, and the texts of
-/// each. Most have one value, which stands in place.
+/// An attribute of an entry: a type and its values (RFC 4512 2.2), with the key of each value under the type's EQUALITY
+/// rule, and the texts of each. Most have one value, which stands in place.
 pub struct Attribute {
     type_id: TypeId,
     held: StoredValues,
@@ -79,7 +79,8 @@ impl Attribute {
         })
     }
 
-    /// The attribute with these values after its own, and their keys. A value that is not in the type's syntax is refused as E11.
+    /// The attribute with these values after its own, and their keys. A value that is not in the type's syntax is
+    /// refused as E11.
     pub fn with_values(
         self,
         alloc: Global,
@@ -88,10 +89,12 @@ impl Attribute {
     ) -> Result<Attribute, ValueError>
         ensures kind { IfOk result (λ a. a.kind ≡ self.kind) }
         ensures values { IfOk result (λ a. a.values ≡ self.values ++ map (λ v. v.items) more.items) }
-        ensures keyed { IfOk result (λ a. AreKeysOf schema.now self.kind self.values self.keys → AreKeysOf schema.now a.kind a.values a.keys) }
+        ensures keyed { IfOk result (λ a. AreKeysOf schema.now self.kind self.values self.keys →
+            AreKeysOf schema.now a.kind a.values a.keys) }
 
         // E11 only where one of the values is not in the type's syntax.
-        ensures refused { IsErrOf result ValueError.NotInSyntax → are_in_syntax schema.now self.kind (map (λ v. v.items) more.items) ≡ false }
+        ensures refused { IsErrOf result ValueError.NotInSyntax → are_in_syntax schema.now self.kind
+            (map (λ v. v.items) more.items) ≡ false }
     {
         let Attribute { type_id, held } = self;
         let more = lists_of(alloc, schema, type_id, more)?;
@@ -145,8 +148,8 @@ impl Attribute {
         })
     }
 
-    /// Whether two of the values are equivalent under the type's EQUALITY rule. It takes time as sorting does; its only error is
-    /// want of memory.
+    /// Whether two of the values are equivalent under the type's EQUALITY rule. It takes time as sorting does; its only
+    /// error is want of memory.
     pub fn has_repeats(&self, alloc: Global, schema: &Schema) -> Result<bool, AllocError>
         ensures { AreKeysOf schema.now self.now.kind self.now.values self.now.keys
             → IfOk result (λ b. b ≡ has_repeats schema.now self.now.kind self.now.values) }
@@ -306,7 +309,8 @@ fn keys_of(
     values: &[Vec<u8>],
 ) -> Result<Vec<Key>, ValueError>
     ensures keyed { IfOk result (λ keys. AreKeysOf schema.now type_id (map (λ v. v.items) values.now) keys.items) }
-    ensures refused { IsErrOf result ValueError.NotInSyntax → list_all (λ v. is_of_type_syntax schema.now type_id v.items) values.now ≡ false }
+    ensures refused { IsErrOf result ValueError.NotInSyntax →
+        list_all (λ v. is_of_type_syntax schema.now type_id v.items) values.now ≡ false }
 {
     match equality_rule(schema, type_id) {
         Some(rule) => keys_under(alloc, schema, rule, values),
@@ -322,7 +326,8 @@ fn keys_under(
     values: &[Vec<u8>],
 ) -> Result<Vec<Key>, ValueError>
     ensures keyed { IfOk result (λ keys. map Some keys.items ≡ map (λ v. key_at schema.now rule v.items) values.now) }
-    ensures refused { IsErrOf result ValueError.NotInSyntax → list_all (λ v. is_some (meaning schema.now rule v.items)) values.now ≡ false }
+    ensures refused { IsErrOf result ValueError.NotInSyntax →
+        list_all (λ v. is_some (meaning schema.now rule v.items)) values.now ≡ false }
 {
     let mut keys = Vec::with_capacity(alloc, values.len())?;
     for value in values {

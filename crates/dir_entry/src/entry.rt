@@ -20,8 +20,8 @@ const TOGETHER: usize = 12;
 /// Stands for a type whose number is this or a greater one, and where there is no attribute.
 const UNTOLD: u16 = u16::MAX;
 
-/// The attributes of an entry, in order (RFC 4512 2.2), with the keys of their values, so that evaluating a filter takes no
-/// memory.
+/// The attributes of an entry, in order (RFC 4512 2.2), with the keys of their values, so that evaluating a filter
+/// takes no memory.
 pub struct Entry {
     /// The types of the first attributes, so that whoever looks for one need not read each where it stands.
     types: [u16; TOGETHER],
@@ -102,7 +102,8 @@ pub fn valid_attribute(
     ensures valid { OnOk result (are_in_syntax schema.now type_id (map (λ v. v.items) values.items) ≡ true) }
     ensures shown { IfOk result (λ a. shown a ≡ record { kind = type_id; values = map (λ v. v.items) values.items }) }
     ensures keyed { IfOk result (λ a. AreKeysOf schema.now a.kind a.values a.keys) }
-    ensures refused { IfErr result (λ e. IsInvalid e (are_in_syntax schema.now type_id (map (λ v. v.items) values.items))) }
+    ensures refused { IfErr result
+        (λ e. IsInvalid e (are_in_syntax schema.now type_id (map (λ v. v.items) values.items))) }
 {
     match Attribute::new(alloc, schema, type_id, values) {
         Ok(attribute) => Ok(attribute),
@@ -119,10 +120,13 @@ fn new_attribute(
     type_id: TypeId,
     values: Vec<Vec<u8>>,
 ) -> Result<Attribute, EntryError>
-    ensures ok { IfOk result (λ a. with_attribute schema.now type_id (map (λ v. v.items) values.items) (attributes_of attributes.now)
+    ensures ok { IfOk result (λ a. with_attribute schema.now type_id (map (λ v. v.items) values.items)
+        (attributes_of attributes.now)
         ≡ Ok (attributes_of attributes.now ++ shown a ∷ [])) }
     ensures keyed { IfOk result (λ a. AreKeysOf schema.now a.kind a.values a.keys) }
-    ensures refused { IfErr result (λ e. Refuses e (with_attribute schema.now type_id (map (λ v. v.items) values.items) (attributes_of attributes.now))) }
+    ensures refused { IfErr result
+        (λ e. Refuses e (with_attribute schema.now type_id (map (λ v. v.items) values.items)
+        (attributes_of attributes.now))) }
 {
     let attribute = valid_attribute(alloc, schema, type_id, values)?;
     if has_type(attributes, type_id) {
@@ -164,8 +168,8 @@ impl Entry {
         Entry { types, attributes }
     }
 
-    /// Adds an attribute at the end, if its values are in the type's syntax, no two are equivalent, and the type isn't there
-    /// yet. An `Err` leaves the entry as it was.
+    /// Adds an attribute at the end, if its values are in the type's syntax, no two are equivalent, and the type isn't
+    /// there yet. An `Err` leaves the entry as it was.
     pub fn add(
         &mut self,
         alloc: Global,
@@ -173,12 +177,15 @@ impl Entry {
         type_id: TypeId,
         values: Vec<Vec<u8>>,
     ) -> Result<(), EntryError>
-        ensures ok { OnOk result (with_attribute schema.now type_id (map (λ v. v.items) values.items) (attributes_of self.old) ≡ Ok (attributes_of self.new)) }
+        ensures ok { OnOk result (with_attribute schema.now type_id (map (λ v. v.items) values.items)
+            (attributes_of self.old) ≡ Ok (attributes_of self.new)) }
         ensures keyed { OnOk result (IsKeyedBy schema.now self.old → IsKeyedBy schema.now self.new) }
         ensures err { OnErr result (self.new ≡ self.old) }
 
         // Each refusal is that of the first check that fails.
-        ensures refused { IfErr result (λ e. Refuses e (with_attribute schema.now type_id (map (λ v. v.items) values.items) (attributes_of self.old))) }
+        ensures refused { IfErr result
+            (λ e. Refuses e (with_attribute schema.now type_id (map (λ v. v.items) values.items)
+            (attributes_of self.old))) }
     {
         let attribute = new_attribute(alloc, schema, self.attributes.as_slice(), type_id, values)?;
         self.attributes.push(attribute)?;

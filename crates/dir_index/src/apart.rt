@@ -29,8 +29,10 @@ fn mark_changed_keys(
     before: &[Key],
     after: &[Key],
 ) -> Result<(), AllocError>
-    ensures more { OnOk result ((p : Posting) → has_posting marks.new.keys p ≡ false → has_posting marks.old.keys p ≡ false) }
-    ensures apart { OnOk result ((p : Posting) → has_posting marks.new.keys p ≡ false → list_any (is_from_key kinds type_id p) before.now ≡ list_any (is_from_key kinds type_id p) after.now) }
+    ensures more { OnOk result ((p : Posting) → has_posting marks.new.keys p ≡ false → has_posting marks.old.keys p ≡
+        false) }
+    ensures apart { OnOk result ((p : Posting) → has_posting marks.new.keys p ≡ false →
+        list_any (is_from_key kinds type_id p) before.now ≡ list_any (is_from_key kinds type_id p) after.now) }
 {
     if !lists_keys(kinds) {
         return Ok(());
@@ -48,7 +50,8 @@ fn mark_any_several(
     kinds: Kinds,
     type_id: TypeId,
 ) -> Result<(), AllocError>
-    ensures { OnOk result ((p : Posting) → has_posting marks.new.keys p ≡ (is_from_several kinds type_id true p || has_posting marks.old.keys p)) }
+    ensures { OnOk result ((p : Posting) → has_posting marks.new.keys p ≡
+        (is_from_several kinds type_id true p || has_posting marks.old.keys p)) }
 {
     if kinds.ordering {
         mark(alloc, marks, type_id, SEVERAL, &[])?;
@@ -65,8 +68,10 @@ fn mark_pair(
     after: &Attribute,
 ) -> Result<(), AllocError>
     requires { before.now.kind ≡ after.now.kind }
-    ensures more { OnOk result ((p : Posting) → has_posting marks.new.keys p ≡ false → has_posting marks.old.keys p ≡ false) }
-    ensures apart { OnOk result ((p : Posting) (e d : List KeyedAttribute) → has_posting marks.new.keys p ≡ false → is_from_attribute indexes.now before.now e p ≡ is_from_attribute indexes.now after.now d p) }
+    ensures more { OnOk result ((p : Posting) → has_posting marks.new.keys p ≡ false → has_posting marks.old.keys p ≡
+        false) }
+    ensures apart { OnOk result ((p : Posting) (e d : List KeyedAttribute) → has_posting marks.new.keys p ≡ false →
+        is_from_attribute indexes.now before.now e p ≡ is_from_attribute indexes.now after.now d p) }
 {
     let type_id = before.type_id();
     let kinds = indexes.kinds(type_id);
@@ -81,8 +86,10 @@ fn mark_whole(
     indexes: &Indexes,
     attribute: &Attribute,
 ) -> Result<(), AllocError>
-    ensures more { OnOk result ((p : Posting) → has_posting marks.new.keys p ≡ false → has_posting marks.old.keys p ≡ false) }
-    ensures whole { OnOk result ((p : Posting) (e : List KeyedAttribute) → has_posting marks.new.keys p ≡ false → is_from_attribute indexes.now attribute.now e p ≡ false) }
+    ensures more { OnOk result ((p : Posting) → has_posting marks.new.keys p ≡ false → has_posting marks.old.keys p ≡
+        false) }
+    ensures whole { OnOk result ((p : Posting) (e : List KeyedAttribute) → has_posting marks.new.keys p ≡ false →
+        is_from_attribute indexes.now attribute.now e p ≡ false) }
 {
     let type_id = attribute.type_id();
     let kinds = indexes.kinds(type_id);
@@ -99,8 +106,10 @@ fn mark_all(
     indexes: &Indexes,
     attributes: &[Attribute],
 ) -> Result<(), AllocError>
-    ensures more { OnOk result ((p : Posting) → has_posting marks.new.keys p ≡ false → has_posting marks.old.keys p ≡ false) }
-    ensures all { OnOk result ((p : Posting) → has_posting marks.new.keys p ≡ false → lists_entry indexes.now attributes.now p ≡ false) }
+    ensures more { OnOk result ((p : Posting) → has_posting marks.new.keys p ≡ false → has_posting marks.old.keys p ≡
+        false) }
+    ensures all { OnOk result ((p : Posting) → has_posting marks.new.keys p ≡ false →
+        lists_entry indexes.now attributes.now p ≡ false) }
 {
     let mut rest = attributes;
     while let Some((attribute, others)) = rest.split_first() {
@@ -110,15 +119,17 @@ fn mark_all(
     Ok(())
 }
 
-/// The postings that may list the entry of some attributes and not that of others: any other posting lists both or neither. Attributes in the
-/// same order are compared type by type, and where one has no fellow, the longer list is taken to have one more there.
+/// The postings that may list the entry of some attributes and not that of others: any other posting lists both or
+/// neither. Attributes in the same order are compared type by type, and where one has no fellow, the longer list is
+/// taken to have one more there.
 pub fn marks_apart(
     alloc: Global,
     indexes: &Indexes,
     before: &[Attribute],
     after: &[Attribute],
 ) -> Result<Marks, AllocError>
-    ensures { IfOk result (λ m. (p : Posting) → has_posting m.keys p ≡ false → lists_entry indexes.now before.now p ≡ lists_entry indexes.now after.now p) }
+    ensures { IfOk result (λ m. (p : Posting) → has_posting m.keys p ≡ false → lists_entry indexes.now before.now p ≡
+        lists_entry indexes.now after.now p) }
 {
     let mut marks = BTreeSet::new(alloc);
     let mut earlier = before;

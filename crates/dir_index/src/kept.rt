@@ -19,14 +19,15 @@ pub trait PostingLists {
     fn numbers_of_each(&self, postings: &[&Posting]) -> Result<Vec<&NumberSet>, AllocError>
         ensures { IfOk result (λ v. map (λ s. s.now) v.items ≡ map (λ p. (lists self.now).posting p.now) postings.now) };
 
-    /// Whether an entry of this number has a value in the range. It costs a look-up and a test of each value of the range's type, and takes no
-    /// memory.
+    /// Whether an entry of this number has a value in the range. It costs a look-up and a test of each value of the
+    /// range's type, and takes no memory.
     fn in_range(&self, range: &Range, number: u64) -> bool
         ensures { result ≡ has_number number ((lists self.now).range range.now) };
 
     /// Puts the numbers of a range behind those that are there, in any order, and some of them perhaps more than once.
     fn push_range(&self, range: &Range, into: &mut Vec<u64>) -> Result<(), AllocError>
-        ensures { OnOk result ((n : ℕ) → has_number n into.new.items ≡ (has_number n into.old.items || has_number n ((lists self.now).range range.now))) };
+        ensures { OnOk result ((n : ℕ) → has_number n into.new.items ≡ (has_number n into.old.items || has_number n
+            ((lists self.now).range range.now))) };
 
     /// About how many numbers a range has. It takes no memory, and decides the cost of a run, never what it gives.
     fn about(&self, range: &Range) -> usize;

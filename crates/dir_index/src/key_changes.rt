@@ -12,9 +12,11 @@ pub struct KeyChange<'a> {
     pub after: &'a [Key],
 }
 
-/// The keys without the front that they have in common. A test tells the whole lists from one another only where it tells these.
+/// The keys without the front that they have in common. A test tells the whole lists from one another only where it
+/// tells these.
 fn behind_front<'a>(before: &'a [Key], after: &'a [Key]) -> KeyChange<'a>
-    ensures { (f : List ℕ → Bool) → list_any f result.before.now ≡ list_any f result.after.now → list_any f before.now ≡ list_any f after.now }
+    ensures { (f : List ℕ → Bool) → list_any f result.before.now ≡ list_any f result.after.now →
+        list_any f before.now ≡ list_any f after.now }
 {
     let mut earlier = before;
     let mut later = after;
@@ -46,7 +48,8 @@ fn behind_front<'a>(before: &'a [Key], after: &'a [Key]) -> KeyChange<'a>
 
 /// The same without the end that they have in common.
 fn before_end<'a>(before: &'a [Key], after: &'a [Key]) -> KeyChange<'a>
-    ensures { (f : List ℕ → Bool) → list_any f result.before.now ≡ list_any f result.after.now → list_any f before.now ≡ list_any f after.now }
+    ensures { (f : List ℕ → Bool) → list_any f result.before.now ≡ list_any f result.after.now →
+        list_any f before.now ≡ list_any f after.now }
 {
     let mut earlier = before;
     let mut later = after;
@@ -76,10 +79,11 @@ fn before_end<'a>(before: &'a [Key], after: &'a [Key]) -> KeyChange<'a>
     }
 }
 
-/// The keys in which two lists differ, as far as a look from both ends finds. It takes no memory. A test that none of them
-/// passes is passed by keys of both lists or of neither.
+/// The keys in which two lists differ, as far as a look from both ends finds. It takes no memory. A test that none of
+/// them passes is passed by keys of both lists or of neither.
 pub fn changed_keys<'a>(before: &'a [Key], after: &'a [Key]) -> KeyChange<'a>
-    ensures { (f : List ℕ → Bool) → list_any f result.before.now ≡ false → list_any f result.after.now ≡ false → list_any f before.now ≡ list_any f after.now }
+    ensures { (f : List ℕ → Bool) → list_any f result.before.now ≡ false → list_any f result.after.now ≡ false →
+        list_any f before.now ≡ list_any f after.now }
 {
     let behind = behind_front(before, after);
     before_end(behind.before, behind.after)

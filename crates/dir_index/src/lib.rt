@@ -6,9 +6,9 @@
 //! type are neighbours (`list_order`). A change makes a new map: the number leaves the lists that list the entry before
 //! and not after, and joins those that list it after and not before (`lists`). Where an entry comes or goes, all its
 //! postings are computed as a set (`marks`). Where its attributes change (`moves`), only postings that may differ are
-//! looked at: those of types that one side lacks, and of keys that the two sides don't have in common at the front or at
-//! the end (`apart`, `key_changes`). Each of them is looked for on both sides (`membership`). A range is a walk from its
-//! first key to its last (`ranges`). Plans ask the trait `PostingLists`.
+//! looked at: those of types that one side lacks, and of keys that the two sides don't have in common at the front or
+//! at the end (`apart`, `key_changes`). Each of them is looked for on both sides (`membership`). A range is a walk from
+//! its first key to its last (`ranges`). Plans ask the trait `PostingLists`.
 //!
 //! Proved: the lists of presence, equality, order and runs of three octets are those of the entries, after each change;
 //! out of memory, nothing has changed (`Postings::add`, `remove`, `replace`, `push_range`).

@@ -37,7 +37,8 @@ fn with_number(
 
 /// The lists with a number in that of a key.
 fn enlisted(alloc: Global, lists: &Lists, key: &ListKey, number: u64) -> Result<Lists, AllocError>
-    ensures is { IfOk result (λ m. (k : ListKey) → list_at m k ≡ cond (is_same_list key.now k) (insert_key nat_cmp (list_at lists.now key.now) number) (list_at lists.now k)) }
+    ensures is { IfOk result (λ m. (k : ListKey) → list_at m k ≡ cond (is_same_list key.now k)
+        (insert_key nat_cmp (list_at lists.now key.now) number) (list_at lists.now k)) }
     ensures rising { IfOk result (λ m. AllRise lists.now → AllRise m) }
 {
     let more = with_number(alloc, lists.get(key), number)?;
@@ -53,7 +54,8 @@ fn rewritten(
     key: &ListKey,
     numbers: NumberSet,
 ) -> Result<Lists, AllocError>
-    ensures is { IfOk result (λ m. (k : ListKey) → list_at m k ≡ cond (is_same_list key.now k) numbers (list_at lists.now k)) }
+    ensures is { IfOk result (λ m. (k : ListKey) → list_at m k ≡ cond (is_same_list key.now k) numbers
+        (list_at lists.now k)) }
     ensures rising { IfOk result (λ m. AllRise lists.now → AllRise m) }
 {
     lists.rises();
@@ -69,7 +71,8 @@ fn rewritten(
 /// The lists without a number in that of a key.
 fn struck(alloc: Global, lists: &Lists, key: &ListKey, number: u64) -> Result<Lists, AllocError>
     ensures rising { IfOk result (λ m. AllRise lists.now → AllRise m) }
-    ensures is { IfOk result (λ m. (k : ListKey) → list_at m k ≡ cond (is_same_list key.now k) (remove_key (is_at (nat_cmp number)) (list_at lists.now key.now)) (list_at lists.now k)) }
+    ensures is { IfOk result (λ m. (k : ListKey) → list_at m k ≡ cond (is_same_list key.now k)
+        (remove_key (is_at (nat_cmp number)) (list_at lists.now key.now)) (list_at lists.now k)) }
 {
     match lists.get(key) {
         Some(numbers) => {
@@ -92,7 +95,9 @@ pub fn enlisted_in(
     others: &Marks,
     number: u64,
 ) -> Result<Lists, AllocError>
-    ensures has { IfOk result (λ m. (p : Posting) (n : ℕ) → is_in m (key_of p) n ≡ ((nat_eq n number && (has_posting marks.now.keys p && not (has_posting others.now.keys p))) || is_in lists.now (key_of p) n)) }
+    ensures has { IfOk result (λ m. (p : Posting) (n : ℕ) → is_in m (key_of p) n ≡
+        ((nat_eq n number && (has_posting marks.now.keys p && not (has_posting others.now.keys p))) || is_in lists.now
+        (key_of p) n)) }
     ensures rising { IfOk result (λ m. AllRise lists.now → AllRise m) }
 {
     let mut now = lists.share()?;
@@ -112,7 +117,9 @@ pub fn struck_from(
     others: &Marks,
     number: u64,
 ) -> Result<Lists, AllocError>
-    ensures has { IfOk result (λ m. AllRise lists.now → (p : Posting) (n : ℕ) → is_in m (key_of p) n ≡ (is_in lists.now (key_of p) n && not (nat_eq n number && (has_posting marks.now.keys p && not (has_posting others.now.keys p))))) }
+    ensures has { IfOk result (λ m. AllRise lists.now → (p : Posting) (n : ℕ) → is_in m (key_of p) n ≡
+        (is_in lists.now (key_of p) n
+        && not (nat_eq n number && (has_posting marks.now.keys p && not (has_posting others.now.keys p))))) }
     ensures rising { IfOk result (λ m. AllRise lists.now → AllRise m) }
 {
     let mut now = lists.share()?;

@@ -34,7 +34,9 @@ pub fn mark(
     rank: u8,
     octets: &[u8],
 ) -> Result<(), AllocError>
-    ensures { OnOk result ((p : Posting) → has_posting marks.new.keys p ≡ (is_same_list (record { type_id = type_id; rank = rank; octets = octets.now }) (key_of p) || has_posting marks.old.keys p)) }
+    ensures { OnOk result ((p : Posting) → has_posting marks.new.keys p ≡
+        (is_same_list (record { type_id = type_id; rank = rank; octets = octets.now }) (key_of p) || has_posting
+        marks.old.keys p)) }
 {
     let number = short_number(type_id)?;
     let octets = Octets::new(alloc, octets)?;
@@ -54,7 +56,8 @@ fn mark_first(
     type_id: TypeId,
     octets: &[u8],
 ) -> Result<(), AllocError>
-    ensures { OnOk result ((p : Posting) → has_posting marks.new.keys p ≡ (is_first_run type_id octets.now p || has_posting marks.old.keys p)) }
+    ensures { OnOk result ((p : Posting) → has_posting marks.new.keys p ≡
+        (is_first_run type_id octets.now p || has_posting marks.old.keys p)) }
 {
     if octets.len() < 3 {
         return Ok(());
@@ -69,7 +72,8 @@ fn mark_runs(
     type_id: TypeId,
     octets: &[u8],
 ) -> Result<(), AllocError>
-    ensures { OnOk result ((p : Posting) → has_posting marks.new.keys p ≡ (is_run_of type_id octets.now p || has_posting marks.old.keys p)) }
+    ensures { OnOk result ((p : Posting) → has_posting marks.new.keys p ≡
+        (is_run_of type_id octets.now p || has_posting marks.old.keys p)) }
 {
     let mut rest = octets;
     while let Some((_, behind)) = rest.split_first() {
@@ -87,7 +91,8 @@ fn mark_value(
     type_id: TypeId,
     key: &Key,
 ) -> Result<(), AllocError>
-    ensures { OnOk result ((p : Posting) → has_posting marks.new.keys p ≡ (is_of_key type_id key.now p || has_posting marks.old.keys p)) }
+    ensures { OnOk result ((p : Posting) → has_posting marks.new.keys p ≡ (is_of_key type_id key.now p || has_posting
+        marks.old.keys p)) }
 {
     mark(alloc, marks, type_id, VALUE, key.as_octets())
 }
@@ -100,7 +105,8 @@ fn mark_key(
     type_id: TypeId,
     key: &Key,
 ) -> Result<(), AllocError>
-    ensures { OnOk result ((p : Posting) → has_posting marks.new.keys p ≡ (is_from_key kinds type_id p key.now || has_posting marks.old.keys p)) }
+    ensures { OnOk result ((p : Posting) → has_posting marks.new.keys p ≡
+        (is_from_key kinds type_id p key.now || has_posting marks.old.keys p)) }
 {
     if kinds.equality || kinds.ordering {
         mark_value(alloc, marks, type_id, key)?;
@@ -119,7 +125,8 @@ pub fn mark_keys(
     type_id: TypeId,
     keys: &[Key],
 ) -> Result<(), AllocError>
-    ensures { OnOk result ((p : Posting) → has_posting marks.new.keys p ≡ (list_any (is_from_key kinds type_id p) keys.now || has_posting marks.old.keys p)) }
+    ensures { OnOk result ((p : Posting) → has_posting marks.new.keys p ≡
+        (list_any (is_from_key kinds type_id p) keys.now || has_posting marks.old.keys p)) }
 {
     for key in keys {
         mark_key(alloc, marks, kinds, type_id, key)?;
@@ -135,7 +142,8 @@ pub fn mark_presence(
     kinds: Kinds,
     type_id: TypeId,
 ) -> Result<(), AllocError>
-    ensures { OnOk result ((p : Posting) → has_posting marks.new.keys p ≡ (is_from_presence kinds type_id p || has_posting marks.old.keys p)) }
+    ensures { OnOk result ((p : Posting) → has_posting marks.new.keys p ≡
+        (is_from_presence kinds type_id p || has_posting marks.old.keys p)) }
 {
     if kinds.presence {
         mark(alloc, marks, type_id, PRESENCE, &[])?;
@@ -169,7 +177,9 @@ fn mark_several(
     attribute: &Attribute,
     others: &[Attribute],
 ) -> Result<(), AllocError>
-    ensures { OnOk result ((p : Posting) → has_posting marks.new.keys p ≡ (is_from_several kinds attribute.now.kind (makes_several attribute.now others.now) p || has_posting marks.old.keys p)) }
+    ensures { OnOk result ((p : Posting) → has_posting marks.new.keys p ≡
+        (is_from_several kinds attribute.now.kind (makes_several attribute.now others.now) p || has_posting
+        marks.old.keys p)) }
 {
     if kinds.ordering && may_have_several(attribute, others) {
         mark(alloc, marks, attribute.type_id(), SEVERAL, &[])?;
@@ -185,7 +195,8 @@ fn mark_attribute(
     attribute: &Attribute,
     others: &[Attribute],
 ) -> Result<(), AllocError>
-    ensures { OnOk result ((p : Posting) → has_posting marks.new.keys p ≡ (is_from_attribute indexes.now attribute.now others.now p || has_posting marks.old.keys p)) }
+    ensures { OnOk result ((p : Posting) → has_posting marks.new.keys p ≡ (is_from_attribute indexes.now attribute.now
+        others.now p || has_posting marks.old.keys p)) }
 {
     let type_id = attribute.type_id();
     let kinds = indexes.kinds(type_id);

@@ -94,7 +94,8 @@ pub fn marks_within(
     marks: &Marks,
     attributes: &[Attribute],
 ) -> Result<Marks, AllocError>
-    ensures { IfOk result (λ m. (p : Posting) → has_posting m.keys p ≡ (has_posting marks.now.keys p && lists_entry indexes.now attributes.now p)) }
+    ensures { IfOk result (λ m. (p : Posting) → has_posting m.keys p ≡ (has_posting marks.now.keys p
+        && lists_entry indexes.now attributes.now p)) }
 {
     let mut within = BTreeSet::new(alloc);
     for key in marks {

@@ -28,22 +28,26 @@ fn all_moves(
     before: &[Attribute],
     after: &[Attribute],
 ) -> Result<Moves, AllocError>
-    ensures { IfOk result (λ m. (p : Posting) (there : Bool) → moved (has_posting m.was.keys p) (has_posting m.is.keys p) there ≡ moved (lists_entry indexes.now before.now p) (lists_entry indexes.now after.now p) there) }
+    ensures { IfOk result (λ m. (p : Posting) (there : Bool) → moved (has_posting m.was.keys p)
+        (has_posting m.is.keys p) there ≡ moved (lists_entry indexes.now before.now p)
+        (lists_entry indexes.now after.now p) there) }
 {
     let was = marks_of(alloc, indexes, before)?;
     let is = marks_of(alloc, indexes, after)?;
     Ok(Moves { was, is })
 }
 
-/// The postings before and after a change of attributes, of which those that stay as they are may be left out: attributes that are the same on
-/// both sides, and keys that both have at the front or at the end, bring none.
+/// The postings before and after a change of attributes, of which those that stay as they are may be left out:
+/// attributes that are the same on both sides, and keys that both have at the front or at the end, bring none.
 pub fn moves_between(
     alloc: Global,
     indexes: &Indexes,
     before: &[Attribute],
     after: &[Attribute],
 ) -> Result<Moves, AllocError>
-    ensures { IfOk result (λ m. (p : Posting) (there : Bool) → moved (has_posting m.was.keys p) (has_posting m.is.keys p) there ≡ moved (lists_entry indexes.now before.now p) (lists_entry indexes.now after.now p) there) }
+    ensures { IfOk result (λ m. (p : Posting) (there : Bool) → moved (has_posting m.was.keys p)
+        (has_posting m.is.keys p) there ≡ moved (lists_entry indexes.now before.now p)
+        (lists_entry indexes.now after.now p) there) }
 {
     if before.is_empty() || after.is_empty() {
         return all_moves(alloc, indexes, before, after);

@@ -95,7 +95,9 @@ impl Postings {
         after: &[Attribute],
     ) -> Result<Lists, AllocError>
         ensures has { IfOk result (λ m. AllRise self.now.lists → (p : Posting) (n : ℕ) → is_in m (key_of p) n
-            ≡ cond (nat_eq n number) (moved (lists_entry self.now.indexes before.now p) (lists_entry self.now.indexes after.now p) (is_in self.now.lists (key_of p) n)) (is_in self.now.lists (key_of p) n)) }
+            ≡ cond (nat_eq n number) (moved (lists_entry self.now.indexes before.now p)
+            (lists_entry self.now.indexes after.now p) (is_in self.now.lists (key_of p) n))
+            (is_in self.now.lists (key_of p) n)) }
         ensures rising { IfOk result (λ m. AllRise self.now.lists → AllRise m) }
     {
         let indexes = self.choice.indexes();
@@ -107,7 +109,8 @@ impl Postings {
 
     /// Lists an entry under a number above all. An `Err` changes nothing.
     pub fn add(&mut self, number: u64, entry: &Entry) -> Result<(), AllocError>
-        ensures ok { OnOk result ((es : List Indexed) → AreOf self.old es → AllBelow number es → AreOf self.new (es ++ record { number = number; entry = entry.now } ∷ [])) }
+        ensures ok { OnOk result ((es : List Indexed) → AreOf self.old es → AllBelow number es →
+            AreOf self.new (es ++ record { number = number; entry = entry.now } ∷ [])) }
         ensures indexes { self.new.indexes ≡ self.old.indexes }
         ensures err { OnErr result (self.new ≡ self.old) }
     {
@@ -117,7 +120,8 @@ impl Postings {
 
     /// Takes an entry out of the lists. An `Err` changes nothing.
     pub fn remove(&mut self, number: u64, entry: &Entry) -> Result<(), AllocError>
-        ensures ok { OnOk result ((es : List Indexed) → AreOf self.old es → HasEntry es number entry.now → AreOf self.new (without number es)) }
+        ensures ok { OnOk result ((es : List Indexed) → AreOf self.old es → HasEntry es number entry.now →
+            AreOf self.new (without number es)) }
         ensures indexes { self.new.indexes ≡ self.old.indexes }
         ensures err { OnErr result (self.new ≡ self.old) }
     {
@@ -128,7 +132,8 @@ impl Postings {
     /// Lists an entry as it is after a change of its attributes: it leaves the lists that it is no
     /// longer in. An `Err` changes nothing.
     pub fn replace(&mut self, number: u64, before: &Entry, after: &Entry) -> Result<(), AllocError>
-        ensures ok { OnOk result ((es : List Indexed) → AreOf self.old es → HasEntry es number before.now → AreOf self.new (with_attributes number after.now es)) }
+        ensures ok { OnOk result ((es : List Indexed) → AreOf self.old es → HasEntry es number before.now →
+            AreOf self.new (with_attributes number after.now es)) }
         ensures indexes { self.new.indexes ≡ self.old.indexes }
         ensures err { OnErr result (self.new ≡ self.old) }
     {
@@ -172,7 +177,8 @@ impl Postings {
     /// Puts the numbers of a range behind those that are there, list by list, so that a number may come
     /// several times. A range whose type has no index in order has none.
     pub fn push_range(&self, range: &Range, into: &mut Vec<u64>) -> Result<(), AllocError>
-        ensures { OnOk result ((es : List Indexed) → AreOf self.now es → (n : ℕ) → has_number n into.new.items ≡ (has_number n into.old.items || has_number n ((postings_of self.now.indexes es).range range.now))) }
+        ensures { OnOk result ((es : List Indexed) → AreOf self.now es → (n : ℕ) → has_number n into.new.items ≡
+            (has_number n into.old.items || has_number n ((postings_of self.now.indexes es).range range.now))) }
     {
         if !self.indexes().kinds(range.type_id).ordering {
             return Ok(());

@@ -99,7 +99,9 @@ fn push_first(
     start: &BorrowedKey<'_>,
     into: &mut Vec<u64>,
 ) -> Result<(), AllocError>
-    ensures { OnOk result ((n : ℕ) → has_number n into.new.items ≡ (has_number n into.old.items || (in_range range.now start.now.octets.now && has_number n (list_at lists.now (key_at start.now))))) }
+    ensures { OnOk result ((n : ℕ) → has_number n into.new.items ≡
+        (has_number n into.old.items || (in_range range.now start.now.octets.now
+        && has_number n (list_at lists.now (key_at start.now))))) }
 {
     if !is_within(range, start.octets) {
         return Ok(());
@@ -118,7 +120,8 @@ fn push_rest(
     into: &mut Vec<u64>,
 ) -> Result<(), AllocError>
     requires { key_at start.now ≡ range_start range.now }
-    ensures { OnOk result ((n : ℕ) → has_number n into.new.items ≡ (has_number n into.old.items || has_in_lists range.now n (entries_after (list_order (key_at start.now)) lists.now))) }
+    ensures { OnOk result ((n : ℕ) → has_number n into.new.items ≡ (has_number n into.old.items || has_in_lists
+        range.now n (entries_after (list_order (key_at start.now)) lists.now))) }
 {
     lists.rises();
     let mut walk = Walk::after(lists, start);
@@ -133,7 +136,8 @@ fn push_rest(
 
 /// Puts the numbers of the lists of a range behind those that are there.
 pub fn push_lists(lists: &Lists, range: &Range, into: &mut Vec<u64>) -> Result<(), AllocError>
-    ensures { OnOk result ((n : ℕ) → has_number n into.new.items ≡ (has_number n into.old.items || has_in_lists range.now n lists.now)) }
+    ensures { OnOk result ((n : ℕ) → has_number n into.new.items ≡ (has_number n into.old.items || has_in_lists
+        range.now n lists.now)) }
 {
     lists.rises();
     let start = start_of(range);

@@ -5,8 +5,8 @@ use dir_search::{CompareRequest, SearchRequest};
 use journal::{Fate as JournalFate, Fault as JournalFault};
 use view_store::{Fate, Fault};
 
-/// A message that a node gave out: at the event of this index of the schedule, in this part of it, at this place among its sends; each from 0. An event that
-/// isn't a batch has one part.
+/// A message that a node gave out: at the event of this index of the schedule, in this part of it, at this place among
+/// its sends; each from 0. An event that isn't a batch has one part.
 #[derive(Clone, Copy, Debug, PartialEq, Eq)]
 pub struct Place {
     pub event: u64,
@@ -63,9 +63,9 @@ pub enum MachineEvent {
         replica: u64,
         fates: Fates,
     },
-    /// A process that isn't up starts over what its devices hold: until a start has succeeded, for the first time, over an empty journal.
-    /// Its devices fail at the calls that the faults name. The process ends there, in whatever call of its node that is; what it wrote and
-    /// no sync settled has these fates then.
+    /// A process that isn't up starts over what its devices hold: until a start has succeeded, for the first time, over
+    /// an empty journal. Its devices fail at the calls that the faults name. The process ends there, in whatever call
+    /// of its node that is; what it wrote and no sync settled has these fates then.
     Start {
         replica: u64,
         faults: Faults,

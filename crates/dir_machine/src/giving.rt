@@ -9,7 +9,8 @@ use crate::replies::MachineReply;
 use dir_node::{AllHandled, Event, Handled, NodeError, Op};
 use std::alloc::{AllocError, Global};
 
-/// The process of a node whose device failed inside a call: it ends there. Its only error is want of memory for what is left.
+/// The process of a node whose device failed inside a call: it ends there. Its only error is want of memory for what is
+/// left.
 fn stopped(
     alloc: Global,
     node: MemoryNode,

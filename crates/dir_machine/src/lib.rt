@@ -1,16 +1,18 @@
-//! A cluster of whole replicas under a schedule: each a `Node` over devices in memory, with a journal or without, as a process
-//! runs it. Threads, sockets and sessions are above.
+//! A cluster of whole replicas under a schedule: each a `Node` over devices in memory, with a journal or without, as a
+//! process runs it. Threads, sockets and sessions are above.
 //!
-//! Plays a schedule with real nodes (`Machine::run`): events and batches of events that nodes handle, messages of others that come
-//! once, again, late or never, processes that end between two calls or inside one, where one of their devices fails, and starts over what
-//! their devices may hold then. What is shown is all that the nodes' calls gave out (`replies`), and it is the network too: a message is
-//! named by its place there. What a call gave out that ended inside is shown nowhere, and never comes.
+//! Plays a schedule with real nodes (`Machine::run`): events and batches of events that nodes handle, messages of
+//! others that come once, again, late or never, processes that end between two calls or inside one, where one of their
+//! devices fails, and starts over what their devices may hold then. What is shown is all that the nodes' calls gave out
+//! (`replies`), and it is the network too: a message is named by its place there. What a call gave out that ended
+//! inside is shown nowhere, and never comes.
 //!
-//! Proved: what the nodes do is what happens in a world of the protocol, one world event for each event that a node took. What is
-//! committed in that world is one list, which only grows. With journals each later start goes on as its journal has kept the replica, and
-//! of any majority of processes that are up one has all that is committed, also after all ended at once. Each answer of a search or a
-//! compare is that of one beginning of it, no shorter than the search named (`Machine::run`). A first start that failed is made again,
-//! over an empty journal: a stop inside it promises nothing of the device (`Node::fresh`), and nobody has heard of the replica by then.
+//! Proved: what the nodes do is what happens in a world of the protocol, one world event for each event that a node
+//! took. What is committed in that world is one list, which only grows. With journals each later start goes on as its
+//! journal has kept the replica, and of any majority of processes that are up one has all that is committed, also after
+//! all ended at once. Each answer of a search or a compare is that of one beginning of it, no shorter than the search
+//! named (`Machine::run`). A first start that failed is made again, over an empty journal: a stop inside it promises
+//! nothing of the device (`Node::fresh`), and nobody has heard of the replica by then.
 #![tactic(auto)]
 
 mod asking;

@@ -44,18 +44,21 @@ impl Drop for Machine {
 }
 
 impl Machine {
-    /// Plays a schedule, from processes that were never up on. Its only error is want of memory for what is shown, and then nothing is.
+    /// Plays a schedule, from processes that were never up on. Its only error is want of memory for what is shown, and
+    /// then nothing is.
     pub fn run(
         &self,
         alloc: Global,
         schedule: Vec<MachineEvent>,
     ) -> Result<Vec<MachineReply>, AllocError>
-        // For 2f + 1 replicas there is a list of world events that the schedule gives in turn, as what is shown says: each event that a node took is one of
-        // them. What is committed after it is one list, which only grows. With journals, of any majority of processes that are up one has all of it in its log,
-        // also where all ended at once. What a search or a compare finds is what it finds after some first of the updates that are committed by then, no fewer
-        // than it named.
+        // For 2f + 1 replicas there is a list of world events that the schedule gives in turn, as what is shown says:
+        // each event that a node took is one of them. What is committed after it is one list, which only grows. With
+        // journals, of any majority of processes that are up one has all of it in its log, also where all ended at
+        // once. What a search or a compare finds is what it finds after some first of the updates that are committed by
+        // then, no fewer than it named.
         ensures whole { IfOk result (λ shown. IsSize self.now.count
-            → IsWhole (arc_value self.now.schema) self.now.suffix self.now.count self.now.journaled schedule.items shown.items) }
+            → IsWhole (arc_value self.now.schema) self.now.suffix self.now.count self.now.journaled schedule.items
+            shown.items) }
     {
         let mut run = begin(alloc, self)?;
         for event in schedule {

@@ -31,7 +31,8 @@ fn copy_send(
     }
 }
 
-/// The message at a place, in memory of its own; none where nothing was given out there. Its only error is want of memory.
+/// The message at a place, in memory of its own; none where nothing was given out there. Its only error is want of
+/// memory.
 fn copy_message_at(
     alloc: Global,
     shown: &[MachineReply],
@@ -61,7 +62,8 @@ fn copy_message_at(
     }
 }
 
-/// The event that a replica is given; none where it is a message that nobody gave out for it. Its only error is want of memory.
+/// The event that a replica is given; none where it is a message that nobody gave out for it. Its only error is want of
+/// memory.
 pub fn asked(
     alloc: Global,
     shown: &[MachineReply],
@@ -91,7 +93,8 @@ pub fn asked(
     }
 }
 
-/// The events that a replica is given; none where one is a message that nobody gave out for it. Its only error is want of memory.
+/// The events that a replica is given; none where one is a message that nobody gave out for it. Its only error is want
+/// of memory.
 pub fn asked_all(
     alloc: Global,
     shown: &[MachineReply],

@@ -33,8 +33,8 @@ pub enum MachineReply {
         replica: u64,
         error: NodeError,
     },
-    /// The device failed, or can't store the view: the process ended, and what its call gave out is lost. It may start again over what
-    /// its device holds.
+    /// The device failed, or can't store the view: the process ended, and what its call gave out is lost. It may start
+    /// again over what its device holds.
     Stopped {
         replica: u64,
         error: NodeError,
@@ -66,7 +66,8 @@ pub enum MachineReply {
         number: u64,
         reply: Reply,
     },
-    /// The node has executed only the updates up to this number, which is below the one that a search or a compare named.
+    /// The node has executed only the updates up to this number, which is below the one that a search or a compare
+    /// named.
     NotYet {
         replica: u64,
         number: u64,

@@ -47,7 +47,8 @@ fn refusal(replica: u64, error: NodeError) -> MachineReply
     }
 }
 
-/// The journal's device of a first start, which is empty; none where replicas keep no journal. Its only error is want of memory.
+/// The journal's device of a first start, which is empty; none where replicas keep no journal. Its only error is want
+/// of memory.
 fn first_journal(
     alloc: Global,
     machine: &Machine,
@@ -63,7 +64,8 @@ fn first_journal(
     }
 }
 
-/// A process starts for the first time: whatever the pair's device holds is written over. Its only error is want of memory.
+/// A process starts for the first time: whatever the pair's device holds is written over. Its only error is want of
+/// memory.
 fn start_first(
     alloc: Global,
     machine: &Machine,
@@ -112,7 +114,8 @@ fn start_alone(
     fates: Fates,
 ) -> Result<(Process, MachineReply), AllocError>
     requires { replica < machine.now.count }
-    ensures { IfOk result (λ x. IsStarted machine.now replica (Down (record { image = image; journal = None })) x.0 x.1) }
+    ensures { IfOk result (λ x. IsStarted machine.now replica (Down (record { image = image; journal = None })) x.0
+        x.1) }
 {
     let config = config(alloc, machine, replica)?;
     let device = MemoryDevice::new(alloc, image, machine.room, faults.pair)?;
@@ -155,7 +158,8 @@ fn start_over(
     fates: Fates,
 ) -> Result<(Process, MachineReply), AllocError>
     requires { replica < machine.now.count }
-    ensures { IfOk result (λ x. IsStarted machine.now replica (Down (record { image = image; journal = Some octets })) x.0 x.1) }
+    ensures { IfOk result (λ x. IsStarted machine.now replica (Down (record { image = image; journal = Some octets }))
+        x.0 x.1) }
 {
     let config = config(alloc, machine, replica)?;
     let device = MemoryDevice::new(alloc, image, machine.room, faults.pair)?;

@@ -1,5 +1,5 @@
-//! Looks: the one step of a reader, which shares what is published then, and what is read of it afterwards: a look holds up no publication, whatever
-//! it costs. Floors are kept above.
+//! Looks: the one step of a reader, which shares what is published then, and what is read of it afterwards: a look
+//! holds up no publication, whatever it costs. Floors are kept above.
 ghost use Rattle.std.specs.Prelude.{◌≡◌, ◌<◌, ◌≤◌, length, IfSome, IfNone};
 ghost use Rattle.dir_search.specs.directory_api.ldap_msg.View.{search_view, compare_view};
 ghost use Rattle.dir_search.specs.directory_api.View.{reply_view};
@@ -47,7 +47,8 @@ fn search_shown(
     named: u64,
     request: &SearchRequest,
 ) -> Result<Found<SearchAnswer>, LookError>
-    ensures { IsReadAt (length shown.now.records) named (answer (directory_at shown.now) (search_view request.now)) (looked answer_view result) }
+    ensures { IsReadAt (length shown.now.records) named (answer (directory_at shown.now) (search_view request.now))
+        (looked answer_view result) }
 {
     let at = shown.count();
     search_at(alloc, &shown.store().reading(), at, named, request)
@@ -60,7 +61,8 @@ fn compare_shown(
     named: u64,
     request: &CompareRequest,
 ) -> Result<Found<Reply>, LookError>
-    ensures { IsReadAt (length shown.now.records) named (compared (directory_at shown.now) (compare_view request.now)) (looked reply_view result) }
+    ensures { IsReadAt (length shown.now.records) named (compared (directory_at shown.now) (compare_view request.now))
+        (looked reply_view result) }
 {
     let at = shown.count();
     compare_at(alloc, &shown.store().reading(), at, named, request)

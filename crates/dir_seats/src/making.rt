@@ -45,8 +45,8 @@ fn new_writer(
     Writer::new(alloc, first, second, places)
 }
 
-/// A publisher of a directory without entries, with places for so many readers. The first publication, which shows nothing more, lets it know what it
-/// shows.
+/// A publisher of a directory without entries, with places for so many readers. The first publication, which shows
+/// nothing more, lets it know what it shows.
 fn new_publisher<N, R: Wait + Drop>(
     rt: R,
     alloc: Global,
@@ -88,8 +88,9 @@ fn told_seats<N, R: Wait + Drop>(
     Ok(seats)
 }
 
-/// A publisher of a directory without entries, and so many seats that know it. Two places for readers are kept beside each seat's own, for what
-/// its sessions are told. All seats of a node, and what they are told, are of one N; a program makes one publisher for each N.
+/// A publisher of a directory without entries, and so many seats that know it. Two places for readers are kept beside
+/// each seat's own, for what its sessions are told. All seats of a node, and what they are told, are of one N; a
+/// program makes one publisher for each N.
 pub fn seats<N, R: Wait + Drop>(
     rt: R,
     alloc: Global,
@@ -99,10 +100,12 @@ pub fn seats<N, R: Wait + Drop>(
     count: usize,
 ) -> Result<(Publisher<N, R>, Vec<Seat<N>>), AllocError>
     requires { (0 < count) × (count ≤ 32) }
-    ensures published { IfOk result (λ made. made.0.published ≡ nothing_over (arc_value schema.now) indexes.now suffix.now) }
+    ensures published { IfOk result (λ made. made.0.published ≡ nothing_over (arc_value schema.now) indexes.now
+        suffix.now) }
     ensures waiting { IfOk result (λ made. made.0.waiting ≡ []) }
     ensures count { IfOk result (λ made. length made.1.items ≡ count) }
-    ensures fresh { IfOk result (λ made. All (λ seat. seat ≡ nothing_over (arc_value schema.now) indexes.now suffix.now) made.1.items) }
+    ensures fresh { IfOk result (λ made. All (λ seat. seat ≡ nothing_over (arc_value schema.now) indexes.now
+        suffix.now) made.1.items) }
 {
     let mut publisher = new_publisher(rt, alloc, schema, indexes, suffix, 3 * count)?;
     let seats = told_seats(alloc, &mut publisher, count)?;

@@ -14,9 +14,9 @@ use std::alloc::{AllocError, Global};
 use std::marker::{Model, PhantomData};
 use std::sync::Wait;
 
-/// Shows what was executed to the seats of the node that N names. It keeps the runtime, since showing waits for the seats that are just about to
-/// share an older version, as its drop does; once it is dropped, each seat answers `Gone`. Contracts see what it shows, and the records that it is to
-/// show next.
+/// Shows what was executed to the seats of the node that N names. It keeps the runtime, since showing waits for the
+/// seats that are just about to share an older version, as its drop does; once it is dropped, each seat answers `Gone`.
+/// Contracts see what it shows, and the records that it is to show next.
 pub struct Publisher<N, R: Wait + Drop> {
     alloc: Global,
     writer: ShownWriter,
@@ -36,7 +36,8 @@ impl<N, R: Wait + Drop> Model for Publisher<N, R> {
 
     ghost view = { λ p. showing p.writer.desk.shown.value (drop p.writer.behind p.writer.log.items) };
 
-    ghost invariant = { λ p. HoldsVersions (known p.writer.desk.place) p.writer.desk.shown.value (drop p.writer.behind p.writer.log.items) p.count };
+    ghost invariant = { λ p. HoldsVersions (known p.writer.desk.place) p.writer.desk.shown.value
+        (drop p.writer.behind p.writer.log.items) p.count };
 }
 
 impl<N, R: Wait + Drop> Publisher<N, R> {
@@ -68,7 +69,8 @@ impl<N, R: Wait + Drop> Publisher<N, R> {
     pub fn append(&mut self, executed: &Executed) -> Result<(), AllocError>
         requires follows { IsBeginning (with_records self.old.published self.old.waiting) executed.now }
         ensures published { self.new.published ≡ self.old.published }
-        ensures waiting { MatchResult result (λ _. with_records self.new.published self.new.waiting ≡ executed.now) (λ _. self.new.waiting ≡ self.old.waiting) }
+        ensures waiting { MatchResult result (λ _. with_records self.new.published self.new.waiting ≡ executed.now)
+            (λ _. self.new.waiting ≡ self.old.waiting) }
     {
         let count = executed.len() as u64;
         if count == self.count {
@@ -82,10 +84,11 @@ impl<N, R: Wait + Drop> Publisher<N, R> {
         Ok(())
     }
 
-    /// Shows all that was appended. It waits for the seats that are just about to share an older version. Want of memory, its only error, changes
-    /// nothing.
+    /// Shows all that was appended. It waits for the seats that are just about to share an older version. Want of
+    /// memory, its only error, changes nothing.
     pub fn publish(&mut self) -> Result<(), AllocError>
-        ensures { MatchResult result (λ _. (self.new.published ≡ with_records self.old.published self.old.waiting) × (self.new.waiting ≡ [])) (λ _. self.new ≡ self.old) }
+        ensures { MatchResult result (λ _. (self.new.published ≡ with_records self.old.published self.old.waiting)
+            × (self.new.waiting ≡ [])) (λ _. self.new ≡ self.old) }
     {
         show_in_place(&mut self.writer, &self.rt)?;
         Ok(())

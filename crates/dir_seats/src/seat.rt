@@ -18,7 +18,8 @@ use dir_search::{CompareRequest, Found, Look, LookError, Reply, SearchAnswer, Se
 use std::alloc::Global;
 use std::marker::{Model, PhantomData};
 
-/// Reads what a node published. Contracts see it as its floor, the longest list that it saw or was told of; N names the node.
+/// Reads what a node published. Contracts see it as its floor, the longest list that it saw or was told of; N names the
+/// node.
 pub struct Seat<N> {
     reader: ShownReader,
     at: u64,
@@ -76,14 +77,16 @@ impl<N> Seat<N> {
         }
     }
 
-    /// A search (RFC 4511 4.5): the answer of one published list, which begins with the floor and is the floor from then on.
+    /// A search (RFC 4511 4.5): the answer of one published list, which begins with the floor and is the floor from
+    /// then on.
     pub fn search(
         &mut self,
         alloc: Global,
         named: u64,
         request: &SearchRequest,
     ) -> Result<Found<SearchAnswer>, LookError>
-        ensures { IsReadFrom self.old self.new named (answer (directory_at self.new) (search_view request.now)) (looked answer_view result) }
+        ensures { IsReadFrom self.old self.new named (answer (directory_at self.new) (search_view request.now))
+            (looked answer_view result) }
     {
         let seen = replace_with(
             &mut self.reader,
@@ -106,7 +109,8 @@ impl<N> Seat<N> {
         named: u64,
         request: &CompareRequest,
     ) -> Result<Found<Reply>, LookError>
-        ensures { IsReadFrom self.old self.new named (compared (directory_at self.new) (compare_view request.now)) (looked reply_view result) }
+        ensures { IsReadFrom self.old self.new named (compared (directory_at self.new) (compare_view request.now))
+            (looked reply_view result) }
     {
         let seen = replace_with(
             &mut self.reader,
@@ -156,7 +160,8 @@ impl<N> Look for Seat<N> {
     /// What was published when it was told; none, where there was no place to tell it by.
     type Told = Option<Told<N>>;
 
-    // Each answer is the definition's, of one published list that begins with the seat's floor and is no shorter than the number that was named.
+    // Each answer is the definition's, of one published list that begins with the seat's floor and is no shorter than
+    // the number that was named.
     ghost allows = { seat_allows };
 
     fn search(

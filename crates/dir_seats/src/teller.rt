@@ -1,11 +1,12 @@
-//! Tells what a node publishes, in any thread, without the node's lock: what a session is told with its role. Seats learn it; they are not made here.
+//! Tells what a node publishes, in any thread, without the node's lock: what a session is told with its role. Seats
+//! learn it; they are not made here.
 use crate::look::look;
 use crate::rule::ShownFactory;
 use crate::seat::{Seat, Told};
 use std::marker::PhantomData;
 
-/// Makes readers that know what was published when they were made. It knows no list itself, and a new reader knows none before it looks: so what it
-/// tells was published at one step of the call.
+/// Makes readers that know what was published when they were made. It knows no list itself, and a new reader knows none
+/// before it looks: so what it tells was published at one step of the call.
 pub struct Teller<N> {
     readers: ShownFactory,
     of: PhantomData<N>,
@@ -27,8 +28,8 @@ impl<N> Teller<N> {
         }
     }
 
-    /// The whole of what is published at one step of the call; none where each place for a reader is taken, or the publisher is gone. It waits for
-    /// nobody.
+    /// The whole of what is published at one step of the call; none where each place for a reader is taken, or the
+    /// publisher is gone. It waits for nobody.
     pub fn tell(&self) -> Option<Told<N>> {
         let reader = self.readers.reader().ok()?;
         let (reader, at) = look(reader)?;

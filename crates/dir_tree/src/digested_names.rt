@@ -108,7 +108,8 @@ impl Ord for DigestedRdn {
     }
 }
 
-/// A relative name that is sought, with its digest, so that a look-up digests it once. A contract sees the relative name.
+/// A relative name that is sought, with its digest, so that a look-up digests it once. A contract sees the relative
+/// name.
 pub struct SoughtRdn<'a> {
     digest: u64,
     rdn: &'a Rdn,

@@ -5,7 +5,8 @@
 use crate::place::{Place, Standing};
 use dir_entry::{Attribute, TypeId};
 
-/// Types of attributes, as far as it matters to what is read ahead: those whose numbers are the same but for a multiple of 64 count as one.
+/// Types of attributes, as far as it matters to what is read ahead: those whose numbers are the same but for a multiple
+/// of 64 count as one.
 #[derive(Clone, Copy)]
 pub struct TypesAhead {
     bits: u64,

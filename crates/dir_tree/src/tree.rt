@@ -133,8 +133,8 @@ impl Tree {
         self.roots.entry(number)
     }
 
-    /// The number of the entry right above a number's entry, and the relative name that the entry has below it; none, where it is a root's.
-    /// It takes one look-up, and no memory.
+    /// The number of the entry right above a number's entry, and the relative name that the entry has below it; none,
+    /// where it is a root's. It takes one look-up, and no memory.
     pub fn superior_of(&self, number: u64) -> Option<(u64, &Rdn)>
         ensures here { IfSome result (λ p. is_some (entry_at number self.now.entries) ≡ true) }
         ensures name { IfSome result (λ p. option_map (λ e. e.name) (entry_at number self.now.entries)
@@ -214,7 +214,8 @@ impl Tree {
     /// The numbers of the entries right under a name, in rising order; none, if the name has no entry.
     pub fn children(&self, name: &[Rdn]) -> Option<&NumberSet>
         ensures { option_map (λ s. s.now) result
-            ≡ option_map (λ e. numbers (is_right_under (rdns name.now)) self.now.entries) (find (rdns name.now) self.now.entries) }
+            ≡ option_map (λ e. numbers (is_right_under (rdns name.now)) self.now.entries)
+            (find (rdns name.now) self.now.entries) }
     {
         match self.roots.number_of(name) {
             Some(number) => Some(self.roots.children(number)),
@@ -226,7 +227,8 @@ impl Tree {
     /// entry. Those of the root's name are the numbers of all entries.
     pub fn subtree(&self, name: &[Rdn]) -> Option<&NumberSet>
         ensures { option_map (λ s. s.now) result
-            ≡ option_map (λ e. numbers (is_at_or_below (rdns name.now)) self.now.entries) (find (rdns name.now) self.now.entries) }
+            ≡ option_map (λ e. numbers (is_at_or_below (rdns name.now)) self.now.entries)
+            (find (rdns name.now) self.now.entries) }
     {
         match self.roots.number_of(name) {
             Some(number) => self.roots.within(number),
@@ -257,7 +259,12 @@ impl Tree {
         ensures ok { OnOk result (self.new ≡ record {
           suffix = self.old.suffix;
           entries = self.old.entries
-              ++ record { number = number; name = name_placed (rdns self.old.suffix) name self.old.entries; entry = entry } ∷ [];
+              ++ record {
+                number = number;
+                name = name_placed (rdns self.old.suffix) name self.old.entries;
+                entry =
+                    entry;
+              } ∷ [];
         }) }
         ensures err { OnErr result (self.new ≡ self.old) }
     {
@@ -270,7 +277,11 @@ impl Tree {
     pub fn delete(&mut self, name: &[Rdn], number: u64) -> Result<(), AllocError>
         requires here { option_map (λ e. e.number) (find (rdns name.now) self.old.entries) ≡ Some number }
         requires leaf { has_below (rdns name.now) self.old.entries ≡ false }
-        ensures ok { OnOk result (self.new ≡ record { suffix = self.old.suffix; entries = unnumbered number self.old.entries }) }
+        ensures ok { OnOk result (self.new ≡ record {
+          suffix = self.old.suffix;
+          entries = unnumbered number
+              self.old.entries;
+        }) }
         ensures err { OnErr result (self.new ≡ self.old) }
     {
         let roots = self.roots.deleted(self.alloc, name, number)?;
@@ -280,7 +291,11 @@ impl Tree {
 
     /// Gives the entry of a number other attributes; its name stays. An `Err` changes nothing.
     pub fn replace(&mut self, number: u64, entry: SharedEntry) -> Result<(), AllocError>
-        ensures ok { OnOk result (self.new ≡ record { suffix = self.old.suffix; entries = replaced number entry self.old.entries }) }
+        ensures ok { OnOk result (self.new ≡ record {
+          suffix = self.old.suffix;
+          entries = replaced number entry
+              self.old.entries;
+        }) }
         ensures err { OnErr result (self.new ≡ self.old) }
     {
         let roots = self.roots.replaced(self.alloc, number, entry)?;
@@ -305,11 +320,13 @@ impl Tree {
         requires root { name_eq (rdns name.now) (rdns self.old.suffix) ≡ false }
         requires parent { is_some (find (above (rdns new_name)) self.old.entries) ≡ true }
         requires apart { begins (rdns name.now) (above (rdns new_name)) ≡ false }
-        requires free { is_some (find (rdns new_name) self.old.entries) ≡ true → name_eq (rdns name.now) (rdns new_name) ≡ true }
+        requires free { is_some (find (rdns new_name) self.old.entries) ≡ true →
+            name_eq (rdns name.now) (rdns new_name) ≡ true }
         ensures ok { OnOk result (self.new ≡ record {
           suffix = self.old.suffix;
           entries
-              = moved (rdns name.now) (name_placed (rdns self.old.suffix) new_name self.old.entries) new_entry self.old.entries;
+              = moved (rdns name.now) (name_placed (rdns self.old.suffix) new_name self.old.entries) new_entry
+              self.old.entries;
         }) }
         ensures err { OnErr result (self.new ≡ self.old) }
     {

@@ -187,7 +187,8 @@ impl<'a> Visit<'a> {
     // What stands at a number.
     fn standing(&mut self, number: u64) -> Option<&'a Standing>
         ensures same { self.new ≡ self.old }
-        ensures entry { option_map (λ s. s.entry) (option_copied result) ≡ option_map (λ e. e.entry) (entry_at number self.old.entries) }
+        ensures entry { option_map (λ s. s.entry) (option_copied result) ≡ option_map (λ e. e.entry)
+            (entry_at number self.old.entries) }
     {
         match in_row(&self.row, number) {
             Some(found) => found,
@@ -195,7 +196,8 @@ impl<'a> Visit<'a> {
         }
     }
 
-    /// Reads the names of the entries of these numbers ahead, since they will be shown. It may take memory; where there is none, nothing is read.
+    /// Reads the names of the entries of these numbers ahead, since they will be shown. It may take memory; where there
+    /// is none, nothing is read.
     pub fn expect(&mut self, numbers: &[u64])
         ensures { self.new ≡ self.old }
     {
@@ -238,7 +240,8 @@ impl<'a> Visit<'a> {
         self.leaves = number.saturating_add(LEAVES as u64 * IN_LEAF);
     }
 
-    /// The number of the entry right above a number's entry, and the relative name that the entry has below it; none, where it is the root's.
+    /// The number of the entry right above a number's entry, and the relative name that the entry has below it; none,
+    /// where it is the root's.
     pub fn superior(&mut self, number: u64) -> Option<(u64, &'a Rdn)>
         ensures same { self.new ≡ self.old }
         ensures here { IfSome result (λ p. is_some (entry_at number self.old.entries) ≡ true) }

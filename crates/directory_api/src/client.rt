@@ -15,7 +15,8 @@ pub fn named_client(number: u64) -> Client
     }
 }
 
-/// A session's own client: the index of its replica, counted from 0, which start of it that is, and the session's number there.
+/// A session's own client: the index of its replica, counted from 0, which start of it that is, and the session's
+/// number there.
 pub fn session_client(replica: u8, restarts: u64, session: u64) -> Client
     ensures { result ≡ client_of_session replica restarts session }
 {

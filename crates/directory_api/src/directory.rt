@@ -18,7 +18,8 @@ pub trait Directory {
     /// What a reader may be told of the directory's state.
     type Told;
 
-    // Which exchanges there may be, and what the directory is after each. A session knows nothing of it, so it can only ask.
+    // Which exchanges there may be, and what the directory is after each. A session knows nothing of it, so it can only
+    // ask.
     ghost allows: { Self → Exchange Self.Told → Self → Type 0 };
 
     /// A search (RFC 4511 4.5) at a state no older than the update of this number; 0 is any.
@@ -47,8 +48,8 @@ pub trait Directory {
     fn role(&mut self, alloc: Global) -> (Role, Self::Told)
         ensures { allows self.old (asked_role (role_view result.0) result.1) self.new };
 
-    /// An update (RFC 4511 4.6 to 4.9) as a client's request of this number. A request whose number was answered before is answered the
-    /// same again. It may wait.
+    /// An update (RFC 4511 4.6 to 4.9) as a client's request of this number. A request whose number was answered before
+    /// is answered the same again. It may wait.
     fn update(&mut self, alloc: Global, client: Client, number: u64, update: Update) -> Ended
         ensures { allows self.old (updated client number (update_view update) (ended_view result)) self.new };
 }

@@ -71,9 +71,29 @@ fn put_stored(
     attributes: &[Attribute],
     out: &mut Vec<u8>,
 ) -> Result<(), EncodeError>
-    ensures ok { OnOk result (out.new.items ≡ out.old.items ++ message_bytes (record { id = id; op = response (search_entry (record { object_name = object_name.now; attributes = shown_of shows.now (attributes_of attributes.now) })); controls = [] })) }
+    ensures ok { OnOk result (out.new.items ≡ out.old.items ++ message_bytes
+        (record {
+          id = id;
+          op = response
+              (search_entry (record {
+                object_name = object_name.now;
+                attributes = shown_of shows.now
+                    (attributes_of attributes.now);
+              }));
+          controls = [];
+        })) }
     ensures too_long { IsErrOf result EncodeError.TooLong
-        → 2 ^ 32 ≤ length (message_content (record { id = id; op = response (search_entry (record { object_name = object_name.now; attributes = shown_of shows.now (attributes_of attributes.now) })); controls = [] })) }
+        → 2 ^ 32 ≤ length (message_content
+        (record {
+          id = id;
+          op = response
+              (search_entry (record {
+                object_name = object_name.now;
+                attributes = shown_of shows.now
+                    (attributes_of attributes.now);
+              }));
+          controls = [];
+        })) }
     ensures kept { out.new.items ≡ out.old.items ++ drop (length out.old.items) out.new.items }
 {
     match shows.show_all(alloc, attributes) {
@@ -93,7 +113,11 @@ impl FoundEntry {
 
     /// What is shown of a stored entry, by this name.
     pub fn stored(object_name: String, entry: SharedEntry, shows: Arc<Shows>) -> FoundEntry
-        ensures { found_view result ≡ record { object_name = string_bytes object_name; attributes = shown_of (arc_value shows) (attributes_of entry) } }
+        ensures { found_view result ≡ record {
+          object_name = string_bytes object_name;
+          attributes =
+              shown_of (arc_value shows) (attributes_of entry);
+        } }
     {
         FoundEntry {
             object_name,
@@ -103,7 +127,11 @@ impl FoundEntry {
 
     /// An entry of this name with these attributes, which stand nowhere else.
     pub fn made(object_name: String, attributes: Vec<PartialAttribute>) -> FoundEntry
-        ensures { found_view result ≡ record { object_name = string_bytes object_name; attributes = map attribute_view attributes.items } }
+        ensures { found_view result ≡ record {
+          object_name = string_bytes object_name;
+          attributes = map attribute_view
+              attributes.items;
+        } }
     {
         FoundEntry {
             object_name,
@@ -130,12 +158,17 @@ impl FoundEntry {
         })
     }
 
-    /// Writes the message without controls that shows it, each octet of its values once, behind what is there, which stays whatever comes.
-    /// TooLong only where its content is over 4294967295 octets.
+    /// Writes the message without controls that shows it, each octet of its values once, behind what is there, which
+    /// stays whatever comes. TooLong only where its content is over 4294967295 octets.
     pub fn put(&self, alloc: Global, id: u32, out: &mut Vec<u8>) -> Result<(), EncodeError>
-        ensures ok { OnOk result (out.new.items ≡ out.old.items ++ message_bytes (record { id = id; op = response (search_entry (found_view self.now)); controls = [] })) }
+        ensures ok { OnOk result (out.new.items ≡ out.old.items ++ message_bytes
+            (record { id = id; op = response (search_entry (found_view self.now)); controls = [] })) }
         ensures too_long { IsErrOf result EncodeError.TooLong
-            → 2 ^ 32 ≤ length (message_content (record { id = id; op = response (search_entry (found_view self.now)); controls = [] })) }
+            → 2 ^ 32 ≤ length (message_content (record {
+              id = id;
+              op = response (search_entry (found_view self.now));
+              controls = [];
+            })) }
         ensures kept { out.new.items ≡ out.old.items ++ drop (length out.old.items) out.new.items }
     {
         match &self.found {

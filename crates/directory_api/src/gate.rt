@@ -46,8 +46,8 @@ pub trait Gate<T> {
     fn role(&mut self, alloc: Global) -> (Role, T)
         ensures { allows self.old (asked_role (role_view result.0) result.1) self.new };
 
-    /// An update (RFC 4511 4.6 to 4.9) as a client's request of this number. A request whose number was answered before is answered the
-    /// same again. It may wait.
+    /// An update (RFC 4511 4.6 to 4.9) as a client's request of this number. A request whose number was answered before
+    /// is answered the same again. It may wait.
     fn update(&mut self, alloc: Global, client: Client, number: u64, update: Update) -> Ended
         ensures { allows self.old (updated client number (update_view update) (ended_view result)) self.new };
 

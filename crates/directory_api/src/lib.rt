@@ -1,5 +1,5 @@
-//! The questions that a session asks of its directory, and the answers: searches, compares, updates, the replica's role.
-//! Messages and octets are below; a directory alone, seats and gates answer, each in a crate of its own.
+//! The questions that a session asks of its directory, and the answers: searches, compares, updates, the replica's
+//! role. Messages and octets are below; a directory alone, seats and gates answer, each in a crate of its own.
 //!
 //! What a session asks, and the answers as values. The trait `Directory` has searches, compares, the role, updates and
 //! their count; a `Look` (reads) and a `Gate` (updates) are one as a pair. Directories answer in the words of the wire,
@@ -9,8 +9,8 @@
 //! the stored entry's attributes, or attributes that were made (the root DSE has such). The response is written from
 //! these, each octet copied once. `selection` has what the selectors of a search select, looked up once; an attribute
 //! costs its type's chain of SUPs. `shows` holds that with the schema, once for all that a search finds, and lends the
-//! attributes that are shown (`shown_attribute`). `shown_values` measures, writes and copies values where an entry keeps
-//! them; `made_attribute` copies attributes that were made. Who writes many entries has some of them read ahead
+//! attributes that are shown (`shown_attribute`). `shown_values` measures, writes and copies values where an entry
+//! keeps them; `made_attribute` copies attributes that were made. Who writes many entries has some of them read ahead
 //! (`reading_ahead`), so that the processor waits for memory once for all of these.
 //!
 //! Proved: along a talk with a pair each part goes along its own, and the gate's count rises by the talk's updates

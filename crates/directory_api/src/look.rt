@@ -15,7 +15,8 @@ pub trait Look {
     /// What a reader may be told of the directory's state.
     type Told;
 
-    // Which exchanges there may be, and what the directory is after each. A session knows nothing of it, so it can only ask.
+    // Which exchanges there may be, and what the directory is after each. A session knows nothing of it, so it can only
+    // ask.
     ghost allows: { Self → Exchange Self.Told → Self → Type 0 };
 
     /// A search (RFC 4511 4.5) at a state no older than the update of this number; 0 is any.

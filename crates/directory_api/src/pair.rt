@@ -50,13 +50,14 @@ impl<L: Look, G: Gate<L::Told>> Directory for (L, G) {
     }
 }
 
-/// Along a talk with a pair the look goes along the reads of it, and the gate along the rest: a law on the definitions, so its body is
-/// empty.
+/// Along a talk with a pair the look goes along the reads of it, and the gate along the rest: a law on the definitions,
+/// so its body is empty.
 pub fn pair_goes_along<L: Look, G: Gate<L::Told>>()
     ensures { PairGoesAlong L.allows G.allows }
 {}
 
-/// Along a talk with a pair the gate's count rises by exactly the updates of the talk: a law on the definitions, so its body is empty.
+/// Along a talk with a pair the gate's count rises by exactly the updates of the talk: a law on the definitions, so its
+/// body is empty.
 pub fn pair_counts<L: Look, G: Gate<L::Told>>()
     ensures { PairCounts L.allows G.allows G.count }
 {}

@@ -66,7 +66,8 @@ fn name_type(
     types: &mut BTreeSet<usize>,
     description: &str,
 ) -> Result<(), AllocError>
-    ensures { OnOk result ((t : ℕ) → picks_named schema.now types.new t ≡ (picks_named schema.now types.old t || is_named_by schema.now t (find schema.now description.now))) }
+    ensures { OnOk result ((t : ℕ) → picks_named schema.now types.new t ≡
+        (picks_named schema.now types.old t || is_named_by schema.now t (find schema.now description.now))) }
 {
     if let Some(named) = schema.find(description) {
         types.insert(named.number())?;
@@ -87,7 +88,8 @@ fn are_none(selectors: &[String]) -> bool
 impl Selection {
     /// Adds what a selector selects.
     fn take_up(&mut self, schema: &Schema, selector: &str) -> Result<(), AllocError>
-        ensures { OnOk result ((t : ℕ) → picks schema.now self.new t ≡ (picks schema.now self.old t || is_selected_by schema.now t selector.now)) }
+        ensures { OnOk result ((t : ℕ) → picks schema.now self.new t ≡ (picks schema.now self.old t || is_selected_by
+            schema.now t selector.now)) }
     {
         if selector == "*" {
             self.all = true;

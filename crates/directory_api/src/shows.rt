@@ -57,7 +57,11 @@ impl Model for Shows {
 
     ghost Value = { ShowsModel };
 
-    ghost view = { λ s. record { schema = arc_value s.schema; selectors = map string_bytes s.selectors.items; types_only = s.types_only } };
+    ghost view = { λ s. record {
+      schema = arc_value s.schema;
+      selectors = map string_bytes s.selectors.items;
+      types_only = s.types_only;
+    } };
 
     ghost invariant = { λ s. Resolves (arc_value s.schema) (map string_bytes s.selectors.items) s.selection };
 }
@@ -101,7 +105,12 @@ impl Shows {
         selectors: &[String],
         types_only: bool,
     ) -> Result<Shows, AllocError>
-        ensures { IfOk result (λ s. s ≡ record { schema = arc_value schema; selectors = map string_bytes selectors.now; types_only = types_only }) }
+        ensures { IfOk result (λ s. s ≡ record {
+          schema = arc_value schema;
+          selectors = map string_bytes
+              selectors.now;
+          types_only = types_only;
+        }) }
     {
         let selection = Selection::of(alloc, &schema, selectors)?;
         let selectors = copy_texts(alloc, selectors)?;

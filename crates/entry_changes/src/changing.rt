@@ -29,7 +29,8 @@ fn distinct_attribute(
     ensures distinct { OnOk result (has_repeats schema.now type_id (map (λ v. v.items) values.items) ≡ false) }
     ensures shown { IfOk result (λ a. shown a ≡ record { kind = type_id; values = map (λ v. v.items) values.items }) }
     ensures keyed { IfOk result (λ a. AreKeysOf schema.now a.kind a.values a.keys) }
-    ensures refused { (rest : Result (List AttributeModel) ℕ) → IfErr result (λ e. Refuses e (if_distinct schema.now type_id (map (λ v. v.items) values.items) rest)) }
+    ensures refused { (rest : Result (List AttributeModel) ℕ) →
+        IfErr result (λ e. Refuses e (if_distinct schema.now type_id (map (λ v. v.items) values.items) rest)) }
 {
     let attribute = valid_attribute(alloc, schema, type_id, values)?;
     if attribute.has_repeats(alloc, schema)? {
@@ -53,7 +54,8 @@ fn join(
     ensures values { IfOk result (λ a. a.values ≡ values_held held ++ given.values) }
     ensures keyed { IfOk result (λ a. AreKeysOf schema.now a.kind a.values a.keys) }
     ensures fresh { OnOk result (list_any (holds schema.now given.kind (values_held held)) given.values ≡ false) }
-    ensures refused { IfErr result (λ e. RefusesFor 20 (list_any (holds schema.now given.kind (values_held held)) given.values) e) }
+    ensures refused { IfErr result (λ e. RefusesFor 20 (list_any (holds schema.now given.kind (values_held held))
+        given.values) e) }
 {
     match held {
         None => Ok(Opened::of(given)),
@@ -75,17 +77,19 @@ fn put_left(
     requires given { AreKeysOf schema.now given.now.kind given.now.values given.now.keys }
     ensures held { OnOk result (list_all (holds schema.now held.kind held.values) given.now.values ≡ true) }
     ensures shown { IfOk result (λ e. attributes_of e
-        ≡ take place (attributes_of others.items) ++ attribute_with held.kind (values_left schema.now held.kind given.now.values held.values) ++ drop place (attributes_of others.items)) }
+        ≡ take place (attributes_of others.items) ++ attribute_with held.kind (values_left schema.now held.kind
+        given.now.values held.values) ++ drop place (attributes_of others.items)) }
     ensures keyed { IfOk result (λ e. IsKeyedBy schema.now others.items → IsKeyedBy schema.now e) }
-    ensures refused { IfErr result (λ e. RefusesFor 16 (not (list_all (holds schema.now held.kind held.values) given.now.values)) e) }
+    ensures refused { IfErr result
+        (λ e. RefusesFor 16 (not (list_all (holds schema.now held.kind held.values) given.now.values)) e) }
 {
     let left = left(alloc, schema, held, given)?;
     let attributes = put_back(others, place, left)?;
     Ok(Working::from_attributes(attributes))
 }
 
-/// The entry with the values added to those of the type (RFC 4511 4.6): 19 without a value, 21 where one is not in the type's
-/// syntax, 20 where two are equivalent, or one is held.
+/// The entry with the values added to those of the type (RFC 4511 4.6): 19 without a value, 21 where one is not in the
+/// type's syntax, 20 where two are equivalent, or one is held.
 pub fn add_values(
     alloc: Global,
     schema: &Schema,
@@ -94,9 +98,11 @@ pub fn add_values(
     values: Vec<Vec<u8>>,
 ) -> Result<Working, EntryError>
     requires { IsKeyedBy schema.now entry }
-    ensures ok { IfOk result (λ e. with_added schema.now type_id (map (λ v. v.items) values.items) (attributes_of entry) ≡ Ok (attributes_of e)) }
+    ensures ok { IfOk result (λ e. with_added schema.now type_id (map (λ v. v.items) values.items)
+        (attributes_of entry) ≡ Ok (attributes_of e)) }
     ensures keyed { IfOk result (λ e. IsKeyedBy schema.now e) }
-    ensures refused { IfErr result (λ e. Refuses e (with_added schema.now type_id (map (λ v. v.items) values.items) (attributes_of entry))) }
+    ensures refused { IfErr result (λ e. Refuses e (with_added schema.now type_id (map (λ v. v.items) values.items)
+        (attributes_of entry))) }
 {
     if values.as_slice().is_empty() {
         return Err(EntryError::ConstraintViolation);
@@ -112,8 +118,8 @@ pub fn add_values(
     Ok(Working::from_attributes(attributes))
 }
 
-/// The entry with the values in the place of those of the type (RFC 4511 4.6), which keeps its place: 21 and 20 as for an add.
-/// Without a value the attribute is gone, if it was there.
+/// The entry with the values in the place of those of the type (RFC 4511 4.6), which keeps its place: 21 and 20 as for
+/// an add. Without a value the attribute is gone, if it was there.
 pub fn replace_values(
     alloc: Global,
     schema: &Schema,
@@ -122,9 +128,11 @@ pub fn replace_values(
     values: Vec<Vec<u8>>,
 ) -> Result<Working, EntryError>
     requires { IsKeyedBy schema.now entry }
-    ensures ok { IfOk result (λ e. with_replaced schema.now type_id (map (λ v. v.items) values.items) (attributes_of entry) ≡ Ok (attributes_of e)) }
+    ensures ok { IfOk result (λ e. with_replaced schema.now type_id (map (λ v. v.items) values.items)
+        (attributes_of entry) ≡ Ok (attributes_of e)) }
     ensures keyed { IfOk result (λ e. IsKeyedBy schema.now e) }
-    ensures refused { IfErr result (λ e. Refuses e (with_replaced schema.now type_id (map (λ v. v.items) values.items) (attributes_of entry))) }
+    ensures refused { IfErr result (λ e. Refuses e (with_replaced schema.now type_id (map (λ v. v.items) values.items)
+        (attributes_of entry))) }
 {
     let given = distinct_attribute(alloc, schema, type_id, values)?;
     let Taken { place, others, .. } = take_attribute(entry.into_attributes(), type_id);
@@ -132,8 +140,8 @@ pub fn replace_values(
     Ok(Working::from_attributes(attributes))
 }
 
-/// The entry without the values, or without the attribute where no value is given or all are deleted (RFC 4511 4.6): 21 where a
-/// value is not in the type's syntax, 16 where one, or the attribute, is not there.
+/// The entry without the values, or without the attribute where no value is given or all are deleted (RFC 4511 4.6): 21
+/// where a value is not in the type's syntax, 16 where one, or the attribute, is not there.
 pub fn delete_values(
     alloc: Global,
     schema: &Schema,
@@ -142,9 +150,11 @@ pub fn delete_values(
     values: Vec<Vec<u8>>,
 ) -> Result<Working, EntryError>
     requires { IsKeyedBy schema.now entry }
-    ensures ok { IfOk result (λ e. with_deleted schema.now type_id (map (λ v. v.items) values.items) (attributes_of entry) ≡ Ok (attributes_of e)) }
+    ensures ok { IfOk result (λ e. with_deleted schema.now type_id (map (λ v. v.items) values.items)
+        (attributes_of entry) ≡ Ok (attributes_of e)) }
     ensures keyed { IfOk result (λ e. IsKeyedBy schema.now e) }
-    ensures refused { IfErr result (λ e. Refuses e (with_deleted schema.now type_id (map (λ v. v.items) values.items) (attributes_of entry))) }
+    ensures refused { IfErr result (λ e. Refuses e (with_deleted schema.now type_id (map (λ v. v.items) values.items)
+        (attributes_of entry))) }
 {
     if values.as_slice().is_empty() {
         return delete_attribute(entry, type_id);
@@ -179,9 +189,11 @@ fn delete_given(
 ) -> Result<Working, EntryError>
     requires keyed { IsKeyedBy schema.now entry }
     requires some { is_empty (map (λ v. v.items) values.items) ≡ false }
-    ensures ok { IfOk result (λ e. without_values schema.now type_id (map (λ v. v.items) values.items) (attributes_of entry) ≡ Ok (attributes_of e)) }
+    ensures ok { IfOk result (λ e. without_values schema.now type_id (map (λ v. v.items) values.items)
+        (attributes_of entry) ≡ Ok (attributes_of e)) }
     ensures keyed { IfOk result (λ e. IsKeyedBy schema.now e) }
-    ensures refused { IfErr result (λ e. Refuses e (without_values schema.now type_id (map (λ v. v.items) values.items) (attributes_of entry))) }
+    ensures refused { IfErr result
+        (λ e. Refuses e (without_values schema.now type_id (map (λ v. v.items) values.items) (attributes_of entry))) }
 {
     let given = valid_attribute(alloc, schema, type_id, values)?;
     let Taken {

@@ -53,7 +53,8 @@ pub fn octets_by<'a>(
 /// An index of an attribute that holds all its values.
 pub fn index_of(alloc: Global, by_keys: bool, attribute: &Attribute) -> Result<Index, AllocError>
     ensures by_keys { IfOk result (λ i. i.by_keys ≡ by_keys) }
-    ensures held { IfOk result (λ i. (q : List ℕ) → since i.held.entries q ≡ cond (list_any (bytes_eq q) (compared_by by_keys attribute.now)) (Some 0) None) }
+    ensures held { IfOk result (λ i. (q : List ℕ) → since i.held.entries q ≡
+        cond (list_any (bytes_eq q) (compared_by by_keys attribute.now)) (Some 0) None) }
 {
     let octets = octets_by(alloc, by_keys, attribute)?;
     let mut held = BTreeMap::new(alloc);
@@ -75,7 +76,8 @@ pub fn marks_of(
 
 /// Whether some of the given values are held.
 pub fn holds_some_of(alloc: Global, index: &Index, given: &Attribute) -> Result<bool, AllocError>
-    ensures { IfOk result (λ b. b ≡ list_any (λ x. is_some (since index.now.held.entries x)) (compared_by index.now.by_keys given.now)) }
+    ensures { IfOk result (λ b. b ≡ list_any (λ x. is_some (since index.now.held.entries x))
+        (compared_by index.now.by_keys given.now)) }
 {
     let octets = octets_by(alloc, index.by_keys, given)?;
     Ok(is_some_held(&index.held, octets.as_slice()))
@@ -83,7 +85,8 @@ pub fn holds_some_of(alloc: Global, index: &Index, given: &Attribute) -> Result<
 
 /// Whether all of the given values are held.
 pub fn holds_all_of(alloc: Global, index: &Index, given: &Attribute) -> Result<bool, AllocError>
-    ensures { IfOk result (λ b. b ≡ list_all (λ x. is_some (since index.now.held.entries x)) (compared_by index.now.by_keys given.now)) }
+    ensures { IfOk result (λ b. b ≡ list_all (λ x. is_some (since index.now.held.entries x))
+        (compared_by index.now.by_keys given.now)) }
 {
     let octets = octets_by(alloc, index.by_keys, given)?;
     Ok(are_all_held(&index.held, octets.as_slice()))
@@ -97,8 +100,11 @@ pub fn hold(
     place: usize,
 ) -> Result<(), AllocError>
     ensures by_keys { index.new.by_keys ≡ index.old.by_keys }
-    ensures held { OnOk result ((q : List ℕ) → since index.new.held.entries q ≡ cond (list_any (bytes_eq q) (compared_by index.old.by_keys given.now)) (Some place) (since index.old.held.entries q)) }
-    ensures others { (q : List ℕ) → list_any (bytes_eq q) (compared_by index.old.by_keys given.now) ≡ false → since index.new.held.entries q ≡ since index.old.held.entries q }
+    ensures held { OnOk result ((q : List ℕ) → since index.new.held.entries q ≡
+        cond (list_any (bytes_eq q) (compared_by index.old.by_keys given.now)) (Some place)
+        (since index.old.held.entries q)) }
+    ensures others { (q : List ℕ) → list_any (bytes_eq q) (compared_by index.old.by_keys given.now) ≡ false →
+        since index.new.held.entries q ≡ since index.old.held.entries q }
 {
     let octets = octets_by(alloc, index.by_keys, given)?;
     put_all(alloc, &mut index.held, octets.as_slice(), place)
@@ -107,7 +113,8 @@ pub fn hold(
 /// The given values are held no more. An `Err` leaves the index as it was.
 pub fn let_go(alloc: Global, index: &mut Index, given: &Attribute) -> Result<(), AllocError>
     ensures by_keys { OnOk result (index.new.by_keys ≡ index.old.by_keys) }
-    ensures held { OnOk result ((q : List ℕ) → since index.new.held.entries q ≡ cond (list_any (bytes_eq q) (compared_by index.old.by_keys given.now)) None (since index.old.held.entries q)) }
+    ensures held { OnOk result ((q : List ℕ) → since index.new.held.entries q ≡
+        cond (list_any (bytes_eq q) (compared_by index.old.by_keys given.now)) None (since index.old.held.entries q)) }
     ensures err { OnErr result (index.new ≡ index.old) }
 {
     let octets = octets_by(alloc, index.by_keys, given)?;

@@ -53,7 +53,8 @@ fn attribute_at(attributes: &[Attribute], place: usize) -> Option<&Attribute>
 /// The attribute of the type; none, where it is not there.
 fn attribute_of(attributes: &[Attribute], type_id: TypeId) -> Option<&Attribute>
     ensures kind { (a : KeyedAttribute) → option_map (λ x. x.now) result ≡ Some a → a.kind ≡ type_id }
-    ensures keys { (s : SchemaModel) → IsKeyedBy s attributes.now → (a : KeyedAttribute) → option_map (λ x. x.now) result ≡ Some a → AreKeysOf s a.kind a.values a.keys }
+    ensures keys { (s : SchemaModel) → IsKeyedBy s attributes.now → (a : KeyedAttribute) →
+        option_map (λ x. x.now) result ≡ Some a → AreKeysOf s a.kind a.values a.keys }
     ensures values { values_held (option_map (λ x. x.now) result) ≡ values_of type_id (attributes_of attributes.now) }
 {
     attribute_at(attributes, place(attributes, type_id))
@@ -253,9 +254,11 @@ fn add_to_entry(
     values: Vec<Vec<u8>>,
 ) -> Result<Entry, EntryError>
     requires { IsKeyedBy schema.now entry }
-    ensures ok { IfOk result (λ e. with_added schema.now type_id (map (λ v. v.items) values.items) (attributes_of entry) ≡ Ok (attributes_of e)) }
+    ensures ok { IfOk result (λ e. with_added schema.now type_id (map (λ v. v.items) values.items)
+        (attributes_of entry) ≡ Ok (attributes_of e)) }
     ensures keyed { IfOk result (λ e. IsKeyedBy schema.now e) }
-    ensures refused { IfErr result (λ e. Refuses e (with_added schema.now type_id (map (λ v. v.items) values.items) (attributes_of entry))) }
+    ensures refused { IfErr result (λ e. Refuses e (with_added schema.now type_id (map (λ v. v.items) values.items)
+        (attributes_of entry))) }
 {
     let working = Working::of(alloc, entry)?;
     let changed = add_values(alloc, schema, working, type_id, values)?;
@@ -271,9 +274,11 @@ fn delete_from_entry(
     values: Vec<Vec<u8>>,
 ) -> Result<Entry, EntryError>
     requires { IsKeyedBy schema.now entry }
-    ensures ok { IfOk result (λ e. with_deleted schema.now type_id (map (λ v. v.items) values.items) (attributes_of entry) ≡ Ok (attributes_of e)) }
+    ensures ok { IfOk result (λ e. with_deleted schema.now type_id (map (λ v. v.items) values.items)
+        (attributes_of entry) ≡ Ok (attributes_of e)) }
     ensures keyed { IfOk result (λ e. IsKeyedBy schema.now e) }
-    ensures refused { IfErr result (λ e. Refuses e (with_deleted schema.now type_id (map (λ v. v.items) values.items) (attributes_of entry))) }
+    ensures refused { IfErr result (λ e. Refuses e (with_deleted schema.now type_id (map (λ v. v.items) values.items)
+        (attributes_of entry))) }
 {
     let working = Working::of(alloc, entry)?;
     let changed = delete_values(alloc, schema, working, type_id, values)?;
@@ -299,7 +304,8 @@ fn add_pair(
     add_to_entry(alloc, schema, entry, pair.type_id(), values)
 }
 
-/// The entry with the values of a relative name that it lacks (RFC 4511 4.7, 4.9): 21 where one is not in its type's syntax.
+/// The entry with the values of a relative name that it lacks (RFC 4511 4.7, 4.9): 21 where one is not in its type's
+/// syntax.
 pub fn add_rdn(
     alloc: Global,
     schema: &Schema,
@@ -327,7 +333,8 @@ fn delete_pair(
     pair: &TypeAndValue,
 ) -> Result<Entry, EntryError>
     requires { IsKeyedBy schema.now entry }
-    ensures ok { IfOk result (λ e. without_value schema.now new.now pair.now (attributes_of entry) ≡ Ok (attributes_of e)) }
+    ensures ok { IfOk result (λ e. without_value schema.now new.now pair.now (attributes_of entry) ≡
+        Ok (attributes_of e)) }
     ensures keyed { IfOk result (λ e. IsKeyedBy schema.now e) }
     ensures refused { IfErr result (λ e. Refuses e (without_value schema.now new.now pair.now (attributes_of entry))) }
 {
@@ -350,7 +357,8 @@ pub fn delete_rdn(
     old: &[TypeAndValue],
 ) -> Result<Entry, EntryError>
     requires { IsKeyedBy schema.now entry }
-    ensures ok { IfOk result (λ e. without_rdn schema.now new.now old.now (attributes_of entry) ≡ Ok (attributes_of e)) }
+    ensures ok { IfOk result (λ e. without_rdn schema.now new.now old.now (attributes_of entry) ≡
+        Ok (attributes_of e)) }
     ensures keyed { IfOk result (λ e. IsKeyedBy schema.now e) }
     ensures refused { IfErr result (λ e. Refuses e (without_rdn schema.now new.now old.now (attributes_of entry))) }
 {

@@ -17,10 +17,12 @@ use dir_entry::{Attribute, EntryError, Schema, TypeId, equality_rule, tests_are_
 use std::alloc::{AllocError, Global};
 use std::marker::Model;
 
-/// The first change of an attribute looks for so few values among all that it has. An index costs as much as some dozens of such looks.
+/// The first change of an attribute looks for so few values among all that it has. An index costs as much as some
+/// dozens of such looks.
 const FEW: usize = 8;
 
-/// An attribute whose values may be changed one by one: a value that is deleted stays in its place, and the index says which are held.
+/// An attribute whose values may be changed one by one: a value that is deleted stays in its place, and the index says
+/// which are held.
 #[derive(Drop)]
 pub struct Opened {
     attribute: Attribute,
@@ -121,9 +123,11 @@ fn extended(
     requires fits { Fits index.by_keys (since index.held.entries) attribute }
     requires fresh { list_any (λ x. is_some (since index.held.entries x)) (octets_by index.by_keys given) ≡ false }
     ensures kind { IfOk result (λ o. o.kind ≡ attribute.kind) }
-    ensures values { IfOk result (λ o. o.values ≡ (held_in index.by_keys (since index.held.entries) attribute).values ++ given.values) }
+    ensures values { IfOk result (λ o. o.values ≡ (held_in index.by_keys (since index.held.entries) attribute).values
+        ++ given.values) }
     ensures octets { IfOk result (λ o. octets_by index.by_keys o
-        ≡ octets_by index.by_keys (held_in index.by_keys (since index.held.entries) attribute) ++ octets_by index.by_keys given) }
+        ≡ octets_by index.by_keys (held_in index.by_keys (since index.held.entries) attribute) ++ octets_by
+        index.by_keys given) }
 {
     let mut index = index;
     hold(alloc, &mut index, &given, attribute.values().len())?;
@@ -145,10 +149,12 @@ fn lessened(
     requires fits { Fits index.by_keys (since index.held.entries) attribute }
     ensures kind { IfOk result (λ o. o.kind ≡ attribute.kind) }
     ensures values { IfOk result (λ o. o.values
-        ≡ picked (map (λ x. not (list_any (bytes_eq x) (octets_by index.by_keys given.now))) (octets_by index.by_keys (held_in index.by_keys (since index.held.entries) attribute)))
+        ≡ picked (map (λ x. not (list_any (bytes_eq x) (octets_by index.by_keys given.now)))
+        (octets_by index.by_keys (held_in index.by_keys (since index.held.entries) attribute)))
         (held_in index.by_keys (since index.held.entries) attribute).values) }
     ensures octets { IfOk result (λ o. octets_by index.by_keys o
-        ≡ picked (map (λ x. not (list_any (bytes_eq x) (octets_by index.by_keys given.now))) (octets_by index.by_keys (held_in index.by_keys (since index.held.entries) attribute)))
+        ≡ picked (map (λ x. not (list_any (bytes_eq x) (octets_by index.by_keys given.now)))
+        (octets_by index.by_keys (held_in index.by_keys (since index.held.entries) attribute)))
         (octets_by index.by_keys (held_in index.by_keys (since index.held.entries) attribute))) }
 {
     let mut index = index;
@@ -174,7 +180,8 @@ fn joined_by_index(
     ensures values { IfOk result (λ a. a.values ≡ held.values ++ given.values) }
     ensures keyed { IfOk result (λ a. AreKeysOf schema.now a.kind a.values a.keys) }
     ensures fresh { OnOk result (list_any (holds schema.now given.kind held.values) given.values ≡ false) }
-    ensures refused { IfErr result (λ e. RefusesFor 20 (list_any (holds schema.now given.kind held.values) given.values) e) }
+    ensures refused { IfErr result (λ e. RefusesFor 20 (list_any (holds schema.now given.kind held.values)
+        given.values) e) }
 {
     tests_are_items();
     let Indexed { attribute, index } = indexed(alloc, schema, held)?;
@@ -198,7 +205,8 @@ fn joined_by_search(
     ensures values { IfOk result (λ a. a.values ≡ held.values ++ given.values) }
     ensures keyed { IfOk result (λ a. AreKeysOf schema.now a.kind a.values a.keys) }
     ensures fresh { OnOk result (list_any (holds schema.now given.kind held.values) given.values ≡ false) }
-    ensures refused { IfErr result (λ e. RefusesFor 20 (list_any (holds schema.now given.kind held.values) given.values) e) }
+    ensures refused { IfErr result (λ e. RefusesFor 20 (list_any (holds schema.now given.kind held.values)
+        given.values) e) }
 {
     tests_are_items();
     let by_keys = is_by_keys(schema, held.type_id());
@@ -227,7 +235,8 @@ pub fn joined(
     ensures values { IfOk result (λ a. a.values ≡ held.values ++ given.values) }
     ensures keyed { IfOk result (λ a. AreKeysOf schema.now a.kind a.values a.keys) }
     ensures fresh { OnOk result (list_any (holds schema.now given.kind held.values) given.values ≡ false) }
-    ensures refused { IfErr result (λ e. RefusesFor 20 (list_any (holds schema.now given.kind held.values) given.values) e) }
+    ensures refused { IfErr result (λ e. RefusesFor 20 (list_any (holds schema.now given.kind held.values)
+        given.values) e) }
 {
     if held.is_to_search(&given) {
         let attribute = held.into_attribute(alloc)?;
@@ -250,7 +259,8 @@ fn left_by_index(
     ensures values { IfOk result (λ a. a.values ≡ values_left schema.now held.kind given.now.values held.values) }
     ensures keyed { IfOk result (λ a. AreKeysOf schema.now a.kind a.values a.keys) }
     ensures held { OnOk result (list_all (holds schema.now held.kind held.values) given.now.values ≡ true) }
-    ensures refused { IfErr result (λ e. RefusesFor 16 (not (list_all (holds schema.now held.kind held.values) given.now.values)) e) }
+    ensures refused { IfErr result
+        (λ e. RefusesFor 16 (not (list_all (holds schema.now held.kind held.values) given.now.values)) e) }
 {
     tests_are_items();
     let Indexed { attribute, index } = indexed(alloc, schema, held)?;
@@ -274,7 +284,8 @@ fn left_by_search(
     ensures values { IfOk result (λ a. a.values ≡ values_left schema.now held.kind given.now.values held.values) }
     ensures keyed { IfOk result (λ a. AreKeysOf schema.now a.kind a.values a.keys) }
     ensures held { OnOk result (list_all (holds schema.now held.kind held.values) given.now.values ≡ true) }
-    ensures refused { IfErr result (λ e. RefusesFor 16 (not (list_all (holds schema.now held.kind held.values) given.now.values)) e) }
+    ensures refused { IfErr result
+        (λ e. RefusesFor 16 (not (list_all (holds schema.now held.kind held.values) given.now.values)) e) }
 {
     tests_are_items();
     let by_keys = is_by_keys(schema, held.type_id());
@@ -304,7 +315,8 @@ pub fn left(
     ensures values { IfOk result (λ a. a.values ≡ values_left schema.now held.kind given.now.values held.values) }
     ensures keyed { IfOk result (λ a. AreKeysOf schema.now a.kind a.values a.keys) }
     ensures held { OnOk result (list_all (holds schema.now held.kind held.values) given.now.values ≡ true) }
-    ensures refused { IfErr result (λ e. RefusesFor 16 (not (list_all (holds schema.now held.kind held.values) given.now.values)) e) }
+    ensures refused { IfErr result
+        (λ e. RefusesFor 16 (not (list_all (holds schema.now held.kind held.values) given.now.values)) e) }
 {
     if held.is_to_search(given) {
         let attribute = held.into_attribute(alloc)?;

@@ -48,7 +48,8 @@ fn place(attributes: &[Opened], type_id: TypeId) -> usize
 fn take_at_place(attributes: Vec<Opened>, type_id: TypeId) -> Taken
     ensures place { result.place ≡ place_of type_id (attributes_of attributes.items) }
     ensures attribute { result.attribute ≡ slice_get attributes.items result.place }
-    ensures others { result.others.items ≡ take result.place attributes.items ++ drop (result.place + 1) attributes.items }
+    ensures others { result.others.items ≡ take result.place attributes.items ++ drop (result.place + 1)
+        attributes.items }
 {
     let place = place(attributes.as_slice(), type_id);
     let mut others = attributes;
@@ -70,10 +71,12 @@ fn take_at_place(attributes: Vec<Opened>, type_id: TypeId) -> Taken
 /// Takes the attribute of the type out of its place, if it is there. What is left is keyed as before.
 pub fn take_attribute(attributes: Vec<Opened>, type_id: TypeId) -> Taken
     ensures place { result.place ≡ place_of type_id (attributes_of attributes.items) }
-    ensures others { attributes_of result.others.items ≡ take result.place (attributes_of attributes.items) ++ drop (result.place + 1) (attributes_of attributes.items) }
+    ensures others { attributes_of result.others.items ≡ take result.place (attributes_of attributes.items) ++ drop
+        (result.place + 1) (attributes_of attributes.items) }
     ensures keyed { (s : SchemaModel) → IsKeyedBy s attributes.items → IsKeyedBy s result.others.items }
     ensures kind { (a : KeyedAttribute) → result.attribute ≡ Some a → a.kind ≡ type_id }
-    ensures keys { (s : SchemaModel) → IsKeyedBy s attributes.items → (a : KeyedAttribute) → result.attribute ≡ Some a → AreKeysOf s a.kind a.values a.keys }
+    ensures keys { (s : SchemaModel) → IsKeyedBy s attributes.items → (a : KeyedAttribute) → result.attribute ≡
+        Some a → AreKeysOf s a.kind a.values a.keys }
     ensures values { values_held result.attribute ≡ values_of type_id (attributes_of attributes.items) }
     ensures there { is_some result.attribute ≡ has_type type_id (attributes_of attributes.items) }
 {
@@ -103,8 +106,10 @@ pub fn put_back(
     place: usize,
     attribute: Opened,
 ) -> Result<Vec<Opened>, AllocError>
-    ensures shown { IfOk result (λ v. attributes_of v.items ≡ take place (attributes_of attributes.items) ++ attribute_with attribute.kind attribute.values ++ drop place (attributes_of attributes.items)) }
-    ensures keyed { (s : SchemaModel) → IfOk result (λ v. IsKeyedBy s attributes.items → AreKeysOf s attribute.kind attribute.values attribute.keys → IsKeyedBy s v.items) }
+    ensures shown { IfOk result (λ v. attributes_of v.items ≡ take place (attributes_of attributes.items) ++
+        attribute_with attribute.kind attribute.values ++ drop place (attributes_of attributes.items)) }
+    ensures keyed { (s : SchemaModel) → IfOk result (λ v. IsKeyedBy s attributes.items → AreKeysOf s attribute.kind
+        attribute.values attribute.keys → IsKeyedBy s v.items) }
 {
     if attribute.is_empty() {
         return Ok(attributes);

@@ -30,7 +30,8 @@ fn is_among(by_keys: bool, attribute: &Attribute, octets: &[u8]) -> bool
 
 /// Whether values of some of these octets are the attribute's.
 fn is_some_among(by_keys: bool, attribute: &Attribute, list: &[&[u8]]) -> bool
-    ensures { result ≡ list_any (λ octets. list_any (bytes_eq octets.now) (compared_by by_keys attribute.now)) list.now }
+    ensures { result ≡ list_any (λ octets. list_any (bytes_eq octets.now) (compared_by by_keys attribute.now))
+        list.now }
 {
     for octets in list {
         if is_among(by_keys, attribute, octets) {
@@ -42,7 +43,8 @@ fn is_some_among(by_keys: bool, attribute: &Attribute, list: &[&[u8]]) -> bool
 
 /// Whether values of all these octets are the attribute's.
 fn are_all_among(by_keys: bool, attribute: &Attribute, list: &[&[u8]]) -> bool
-    ensures { result ≡ list_all (λ octets. list_any (bytes_eq octets.now) (compared_by by_keys attribute.now)) list.now }
+    ensures { result ≡ list_all (λ octets. list_any (bytes_eq octets.now) (compared_by by_keys attribute.now))
+        list.now }
 {
     for octets in list {
         if !is_among(by_keys, attribute, octets) {
@@ -59,7 +61,8 @@ pub fn has_some_of(
     attribute: &Attribute,
     given: &Attribute,
 ) -> Result<bool, AllocError>
-    ensures { IfOk result (λ b. b ≡ list_any (λ x. list_any (bytes_eq x) (compared_by by_keys attribute.now)) (compared_by by_keys given.now)) }
+    ensures { IfOk result (λ b. b ≡ list_any (λ x. list_any (bytes_eq x) (compared_by by_keys attribute.now))
+        (compared_by by_keys given.now)) }
 {
     let octets = octets_by(alloc, by_keys, given)?;
     Ok(is_some_among(by_keys, attribute, octets.as_slice()))
@@ -72,7 +75,8 @@ pub fn has_all_of(
     attribute: &Attribute,
     given: &Attribute,
 ) -> Result<bool, AllocError>
-    ensures { IfOk result (λ b. b ≡ list_all (λ x. list_any (bytes_eq x) (compared_by by_keys attribute.now)) (compared_by by_keys given.now)) }
+    ensures { IfOk result (λ b. b ≡ list_all (λ x. list_any (bytes_eq x) (compared_by by_keys attribute.now))
+        (compared_by by_keys given.now)) }
 {
     let octets = octets_by(alloc, by_keys, given)?;
     Ok(are_all_among(by_keys, attribute, octets.as_slice()))
@@ -92,7 +96,8 @@ fn is_one_of(octets: &[u8], others: &[&[u8]]) -> bool
 
 /// Of octets, whether they are not among others.
 fn marks_beside(alloc: Global, list: &[&[u8]], others: &[&[u8]]) -> Result<Vec<bool>, AllocError>
-    ensures { IfOk result (λ v. v.items ≡ map (λ octets. not (list_any (λ other. bytes_eq octets.now other.now) others.now)) list.now) }
+    ensures { IfOk result (λ v. v.items ≡
+        map (λ octets. not (list_any (λ other. bytes_eq octets.now other.now) others.now)) list.now) }
 {
     let mut marks = Vec::with_capacity(alloc, list.len())?;
     for octets in list {
@@ -108,7 +113,8 @@ pub fn marks_without(
     attribute: &Attribute,
     given: &Attribute,
 ) -> Result<Vec<bool>, AllocError>
-    ensures { IfOk result (λ v. v.items ≡ map (λ x. not (list_any (bytes_eq x) (compared_by by_keys given.now))) (compared_by by_keys attribute.now)) }
+    ensures { IfOk result (λ v. v.items ≡ map (λ x. not (list_any (bytes_eq x) (compared_by by_keys given.now)))
+        (compared_by by_keys attribute.now)) }
 {
     let list = octets_by(alloc, by_keys, attribute)?;
     let others = octets_by(alloc, by_keys, given)?;

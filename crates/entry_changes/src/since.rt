@@ -84,7 +84,8 @@ fn copied(alloc: Global, octets: &[u8]) -> Result<Vec<u8>, AllocError>
 
 /// Values of these octets are held since this place. An `Err` leaves what was held.
 fn put(held: &mut Since, octets: Vec<u8>, place: usize) -> Result<(), AllocError>
-    ensures ok { OnOk result ((q : List ℕ) → since held.new.entries q ≡ cond (bytes_eq q octets.items) (Some place) (since held.old.entries q)) }
+    ensures ok { OnOk result ((q : List ℕ) → since held.new.entries q ≡ cond (bytes_eq q octets.items) (Some place)
+        (since held.old.entries q)) }
     ensures err { OnErr result (held.new.entries ≡ held.old.entries) }
 {
     held.insert(octets, place)?;
@@ -98,8 +99,10 @@ pub fn put_all(
     list: &[&[u8]],
     place: usize,
 ) -> Result<(), AllocError>
-    ensures ok { OnOk result ((q : List ℕ) → since held.new.entries q ≡ cond (list_any (λ octets. bytes_eq q octets.now) list.now) (Some place) (since held.old.entries q)) }
-    ensures others { (q : List ℕ) → list_any (λ octets. bytes_eq q octets.now) list.now ≡ false → since held.new.entries q ≡ since held.old.entries q }
+    ensures ok { OnOk result ((q : List ℕ) → since held.new.entries q ≡
+        cond (list_any (λ octets. bytes_eq q octets.now) list.now) (Some place) (since held.old.entries q)) }
+    ensures others { (q : List ℕ) → list_any (λ octets. bytes_eq q octets.now) list.now ≡ false →
+        since held.new.entries q ≡ since held.old.entries q }
 {
     for octets in list {
         put(held, copied(alloc, octets)?, place)?;
@@ -116,7 +119,8 @@ fn take(held: &mut Since, octets: &[u8])
 
 /// No value of any of these octets is held any more.
 pub fn take_all(held: &mut Since, list: &[&[u8]])
-    ensures { (q : List ℕ) → since held.new.entries q ≡ cond (list_any (λ octets. bytes_eq q octets.now) list.now) None (since held.old.entries q) }
+    ensures { (q : List ℕ) → since held.new.entries q ≡ cond (list_any (λ octets. bytes_eq q octets.now) list.now)
+        None (since held.old.entries q) }
 {
     for octets in list {
         take(held, octets);

@@ -7,7 +7,8 @@ use dir_entry::{Attribute, Entry};
 use std::alloc::{AllocError, Global};
 use std::marker::Model;
 
-/// An entry while it is modified: changes of one attribute after the other cost what they ask for, and not what the entry holds.
+/// An entry while it is modified: changes of one attribute after the other cost what they ask for, and not what the
+/// entry holds.
 #[derive(Drop)]
 pub struct Working {
     attributes: Vec<Opened>,

@@ -19,10 +19,13 @@ fn add_given(
     given: &PartialAttribute,
     entry: &mut Entry,
 ) -> Result<(), UpdateError>
-    ensures ok { OnOk result (with_given schema.now (type_of schema.now (attribute_view given.now).description) (attribute_view given.now).values (attributes_of entry.old)
+    ensures ok { OnOk result (with_given schema.now (type_of schema.now (attribute_view given.now).description)
+        (attribute_view given.now).values (attributes_of entry.old)
         ≡ Ok (attributes_of entry.new)) }
     ensures keyed { OnOk result (IsKeyedBy schema.now entry.old → IsKeyedBy schema.now entry.new) }
-    ensures refused { IfErr result (λ e. RefusedAs e (with_given schema.now (type_of schema.now (attribute_view given.now).description) (attribute_view given.now).values
+    ensures refused { IfErr result
+        (λ e. RefusedAs e (with_given schema.now (type_of schema.now (attribute_view given.now).description)
+        (attribute_view given.now).values
         (attributes_of entry.old))) }
 {
     let Some(type_id) = schema.find(&given.description) else {
@@ -50,17 +53,19 @@ fn entry_given(
     Ok(entry)
 }
 
-/// The new entry of an add (RFC 4511 4.7): for each attribute in order 17, 21 and 20; then the values of its relative name and the
-/// superclasses join, and 19 and 65 are judged.
+/// The new entry of an add (RFC 4511 4.7): for each attribute in order 17, 21 and 20; then the values of its relative
+/// name and the superclasses join, and 19 and 65 are judged.
 pub fn entry_asked(
     alloc: Global,
     schema: &Schema,
     rdn: &[TypeAndValue],
     given: &[PartialAttribute],
 ) -> Result<Entry, UpdateError>
-    ensures ok { IfOk result (λ e. attributes_asked schema.now rdn.now (map attribute_view given.now) ≡ Ok (attributes_of e)) }
+    ensures ok { IfOk result (λ e. attributes_asked schema.now rdn.now (map attribute_view given.now) ≡
+        Ok (attributes_of e)) }
     ensures keyed { IfOk result (λ e. IsKeyedBy schema.now e) }
-    ensures refused { IfErr result (λ e. RefusedAs e (attributes_asked schema.now rdn.now (map attribute_view given.now))) }
+    ensures refused { IfErr result
+        (λ e. RefusedAs e (attributes_asked schema.now rdn.now (map attribute_view given.now))) }
 {
     let entry = entry_given(alloc, schema, given)?;
     let entry = name(alloc, schema, entry, rdn)?;

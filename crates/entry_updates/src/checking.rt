@@ -50,17 +50,19 @@ pub fn check(alloc: Global, schema: &Schema, entry: Entry) -> Result<Entry, Entr
     Ok(entry)
 }
 
-/// The entry as it stands, if each SINGLE-VALUE type has one value, its structural class is the one before, and it obeys its
-/// classes.
+/// The entry as it stands, if each SINGLE-VALUE type has one value, its structural class is the one before, and it
+/// obeys its classes.
 pub fn keep(
     alloc: Global,
     schema: &Schema,
     entry: Entry,
     before: &Entry,
 ) -> Result<Entry, EntryError>
-    ensures ok { IfOk result (λ e. kept_completed schema.now (attributes_of before.now) (attributes_of entry) ≡ Ok (attributes_of e)) }
+    ensures ok { IfOk result (λ e. kept_completed schema.now (attributes_of before.now) (attributes_of entry) ≡
+        Ok (attributes_of e)) }
     ensures same { IfOk result (λ e. e ≡ entry) }
-    ensures refused { IfErr result (λ e. Refuses e (kept_completed schema.now (attributes_of before.now) (attributes_of entry))) }
+    ensures refused { IfErr result (λ e. Refuses e (kept_completed schema.now (attributes_of before.now)
+        (attributes_of entry))) }
 {
     if !has_single_values(schema, entry.attributes()) {
         return Err(EntryError::ConstraintViolation);

@@ -16,7 +16,8 @@ fn complete_attribute(
     attribute: Attribute,
 ) -> Result<Attribute, AllocError>
     ensures shown { IfOk result (λ a. shown a ≡ completed_attribute schema.now (shown attribute)) }
-    ensures keyed { IfOk result (λ a. AreKeysOf schema.now attribute.kind attribute.values attribute.keys → AreKeysOf schema.now a.kind a.values a.keys) }
+    ensures keyed { IfOk result (λ a. AreKeysOf schema.now attribute.kind attribute.values attribute.keys →
+        AreKeysOf schema.now a.kind a.values a.keys) }
 {
     if attribute.type_id() != schema.object_class_type() {
         return Ok(attribute);

@@ -34,9 +34,12 @@ fn change_type(
     entry: Working,
 ) -> Result<Working, UpdateError>
     requires { IsKeyedBy schema.now entry }
-    ensures ok { IfOk result (λ e. with_change schema.now operation type_id (map (λ v. v.items) values.items) (attributes_of entry) ≡ Ok (attributes_of e)) }
+    ensures ok { IfOk result (λ e. with_change schema.now operation type_id (map (λ v. v.items) values.items)
+        (attributes_of entry) ≡ Ok (attributes_of e)) }
     ensures keyed { IfOk result (λ e. IsKeyedBy schema.now e) }
-    ensures refused { IfErr result (λ e. RefusedAs e (with_change schema.now operation type_id (map (λ v. v.items) values.items) (attributes_of entry))) }
+    ensures refused { IfErr result
+        (λ e. RefusedAs e (with_change schema.now operation type_id (map (λ v. v.items) values.items)
+        (attributes_of entry))) }
 {
     let changed = match operation {
         ModifyOperation::Add => add_values(alloc, schema, entry, type_id, values)?,
@@ -57,9 +60,11 @@ fn change(
     entry: Working,
 ) -> Result<Working, UpdateError>
     requires { IsKeyedBy schema.now entry }
-    ensures ok { IfOk result (λ e. changed schema.now (change_view asked.now) (attributes_of entry) ≡ Ok (attributes_of e)) }
+    ensures ok { IfOk result (λ e. changed schema.now (change_view asked.now) (attributes_of entry) ≡
+        Ok (attributes_of e)) }
     ensures keyed { IfOk result (λ e. IsKeyedBy schema.now e) }
-    ensures refused { IfErr result (λ e. RefusedAs e (changed schema.now (change_view asked.now) (attributes_of entry))) }
+    ensures refused { IfErr result (λ e. RefusedAs e (changed schema.now (change_view asked.now)
+        (attributes_of entry))) }
 {
     if is_increment(asked.operation) {
         return Err(UpdateError::Refused(ResultCode::PROTOCOL_ERROR));
@@ -79,9 +84,11 @@ fn change_all(
     entry: Working,
 ) -> Result<Working, UpdateError>
     requires { IsKeyedBy schema.now entry }
-    ensures ok { IfOk result (λ e. all_changed schema.now (map change_view changes.now) (attributes_of entry) ≡ Ok (attributes_of e)) }
+    ensures ok { IfOk result (λ e. all_changed schema.now (map change_view changes.now) (attributes_of entry) ≡
+        Ok (attributes_of e)) }
     ensures keyed { IfOk result (λ e. IsKeyedBy schema.now e) }
-    ensures refused { IfErr result (λ e. RefusedAs e (all_changed schema.now (map change_view changes.now) (attributes_of entry))) }
+    ensures refused { IfErr result (λ e. RefusedAs e (all_changed schema.now (map change_view changes.now)
+        (attributes_of entry))) }
 {
     let mut so_far = entry;
     for asked in changes {
@@ -98,17 +105,19 @@ fn copy_changed(
     entry: &Entry,
 ) -> Result<Entry, UpdateError>
     requires { IsKeyedBy schema.now entry.now }
-    ensures ok { IfOk result (λ e. all_changed schema.now (map change_view changes.now) (attributes_of entry.now) ≡ Ok (attributes_of e)) }
+    ensures ok { IfOk result (λ e. all_changed schema.now (map change_view changes.now) (attributes_of entry.now) ≡
+        Ok (attributes_of e)) }
     ensures keyed { IfOk result (λ e. IsKeyedBy schema.now e) }
-    ensures refused { IfErr result (λ e. RefusedAs e (all_changed schema.now (map change_view changes.now) (attributes_of entry.now))) }
+    ensures refused { IfErr result (λ e. RefusedAs e (all_changed schema.now (map change_view changes.now)
+        (attributes_of entry.now))) }
 {
     let copy = Working::of(alloc, entry.copy(alloc)?)?;
     let changed = change_all(alloc, schema, changes, copy)?;
     Ok(changed.into_entry(alloc)?)
 }
 
-/// The entry after a modify (RFC 4511 4.6), of which the relative name is given: for each change in order 2, 17, 19, 21 and 20 or 16; at
-/// the end 67, 19, 69 and 65.
+/// The entry after a modify (RFC 4511 4.6), of which the relative name is given: for each change in order 2, 17, 19, 21
+/// and 20 or 16; at the end 67, 19, 69 and 65.
 pub fn entry_changed(
     alloc: Global,
     schema: &Schema,
@@ -117,9 +126,12 @@ pub fn entry_changed(
     entry: &Entry,
 ) -> Result<Entry, UpdateError>
     requires { IsKeyedBy schema.now entry.now }
-    ensures ok { IfOk result (λ e. attributes_changed schema.now rdn.now (map change_view changes.now) (attributes_of entry.now) ≡ Ok (attributes_of e)) }
+    ensures ok { IfOk result (λ e. attributes_changed schema.now rdn.now (map change_view changes.now)
+        (attributes_of entry.now) ≡ Ok (attributes_of e)) }
     ensures keyed { IfOk result (λ e. IsKeyedBy schema.now e) }
-    ensures refused { IfErr result (λ e. RefusedAs e (attributes_changed schema.now rdn.now (map change_view changes.now) (attributes_of entry.now))) }
+    ensures refused { IfErr result
+        (λ e. RefusedAs e (attributes_changed schema.now rdn.now (map change_view changes.now)
+        (attributes_of entry.now))) }
 {
     let changed = copy_changed(alloc, schema, changes, entry)?;
     let kept = finish(alloc, schema, changed, rdn, entry)?;

@@ -210,8 +210,8 @@ fn has_object_class(schema: &Schema, attributes: &[Attribute]) -> bool
     has_type(attributes, schema.object_class_type())
 }
 
-/// Whether the attributes are what the classes that objectClass names demand, objectClass itself among them. Its only error is
-/// want of memory.
+/// Whether the attributes are what the classes that objectClass names demand, objectClass itself among them. Its only
+/// error is want of memory.
 pub fn obeys_classes(
     alloc: Global,
     schema: &Schema,

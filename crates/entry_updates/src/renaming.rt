@@ -19,9 +19,11 @@ pub fn entry_renamed(
     entry: &Entry,
 ) -> Result<Entry, UpdateError>
     requires { IsKeyedBy schema.now entry.now }
-    ensures ok { IfOk result (λ e. renamed schema.now old.now new.now delete_old (attributes_of entry.now) ≡ Ok (attributes_of e)) }
+    ensures ok { IfOk result (λ e. renamed schema.now old.now new.now delete_old (attributes_of entry.now) ≡
+        Ok (attributes_of e)) }
     ensures keyed { IfOk result (λ e. IsKeyedBy schema.now e) }
-    ensures refused { IfErr result (λ e. RefusedAs e (renamed schema.now old.now new.now delete_old (attributes_of entry.now))) }
+    ensures refused { IfErr result (λ e. RefusedAs e (renamed schema.now old.now new.now delete_old
+        (attributes_of entry.now))) }
 {
     let copy = entry.copy(alloc)?;
     let renamed = rename(alloc, schema, copy, old, new, delete_old)?;

@@ -31,7 +31,8 @@ fn structural_class_among(
     schema: &Schema,
     attributes: &[Attribute],
 ) -> Result<Option<ClassId>, AllocError>
-    ensures { IfOk result (λ c. c ≡ structural_class_of schema.now (classes_that_values_name schema.now (values_of_object_class schema.now (attributes_of attributes.now)))) }
+    ensures { IfOk result (λ c. c ≡ structural_class_of schema.now (classes_that_values_name schema.now
+        (values_of_object_class schema.now (attributes_of attributes.now)))) }
 {
     let classes = classes_named(alloc, schema, class_values(schema, attributes))?;
     structural_class(alloc, schema, classes.as_slice())

@@ -60,7 +60,8 @@ fn are_parts(values: &[Vec<u8>]) -> bool
 
 /// Whether the item has a part.
 fn has_part(filter: &SubstringFilter) -> bool
-    ensures { result ≡ items.has_part (option_map (λ v. v.items) filter.now.initial) (map (λ v. v.items) filter.now.any.items) (option_map (λ v. v.items) filter.now.last) }
+    ensures { result ≡ items.has_part (option_map (λ v. v.items) filter.now.initial)
+        (map (λ v. v.items) filter.now.any.items) (option_map (λ v. v.items) filter.now.last) }
 {
     filter.initial.is_some() || !filter.any.is_empty() || filter.last.is_some()
 }
@@ -78,7 +79,8 @@ fn has_substrings_text(filter: &SubstringFilter) -> bool
 
 /// Whether the description, the flag and the rule stand together.
 fn is_applicable(assertion: &MatchingRuleAssertion) -> bool
-    ensures { result ≡ items.is_applicable (option_map string_bytes assertion.now.description) assertion.now.dn_attributes (option_map string_bytes assertion.now.matching_rule) }
+    ensures { result ≡ items.is_applicable (option_map string_bytes assertion.now.description)
+        assertion.now.dn_attributes (option_map string_bytes assertion.now.matching_rule) }
 {
     match (&assertion.description, &assertion.matching_rule) {
         (None, None) => false,

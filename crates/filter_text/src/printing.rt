@@ -17,7 +17,8 @@ use std::alloc::{AllocError, Global};
 #[cycle(print)]
 fn put_inner(out: &mut String, filter: &Filter) -> Result<(), AllocError>
     ensures ok { OnOk result (string_bytes out.new ≡ string_bytes out.old ++ grammar.filter_inner (view filter.now)) }
-    ensures kept { string_bytes out.new ≡ string_bytes out.old ++ drop (length (string_bytes out.old)) (string_bytes out.new) }
+    ensures kept { string_bytes out.new ≡ string_bytes out.old ++ drop (length (string_bytes out.old))
+        (string_bytes out.new) }
 {
     match filter {
         Filter::And(filters) => {
@@ -58,7 +59,8 @@ fn put_inner(out: &mut String, filter: &Filter) -> Result<(), AllocError>
 #[cycle(print)]
 fn put_filter(out: &mut String, filter: &Filter) -> Result<(), AllocError>
     ensures ok { OnOk result (string_bytes out.new ≡ string_bytes out.old ++ grammar.filter_text (view filter.now)) }
-    ensures kept { string_bytes out.new ≡ string_bytes out.old ++ drop (length (string_bytes out.old)) (string_bytes out.new) }
+    ensures kept { string_bytes out.new ≡ string_bytes out.old ++ drop (length (string_bytes out.old))
+        (string_bytes out.new) }
 {
     out.push('(')?;
     put_inner(out, filter)?;
@@ -69,7 +71,8 @@ fn put_filter(out: &mut String, filter: &Filter) -> Result<(), AllocError>
 #[cycle(print)]
 fn put_filters(out: &mut String, filters: &[Filter]) -> Result<(), AllocError>
     ensures ok { OnOk result (string_bytes out.new ≡ string_bytes out.old ++ grammar.filter_texts (views filters.now)) }
-    ensures kept { string_bytes out.new ≡ string_bytes out.old ++ drop (length (string_bytes out.old)) (string_bytes out.new) }
+    ensures kept { string_bytes out.new ≡ string_bytes out.old ++ drop (length (string_bytes out.old))
+        (string_bytes out.new) }
 {
     for filter in filters {
         put_filter(out, filter)?;
@@ -77,9 +80,9 @@ fn put_filters(out: &mut String, filters: &[Filter]) -> Result<(), AllocError>
     Ok(())
 }
 
-/// The one text that is printed (RFC 4515 3). E18 at 0 only where no text spells the filter: a description or a rule is not of
-/// RFC 4512's form, a part is empty, a substrings item has no part, an extensible item has neither description nor rule, or its rule
-/// right behind a description reads as `dn`.
+/// The one text that is printed (RFC 4515 3). E18 at 0 only where no text spells the filter: a description or a rule is
+/// not of RFC 4512's form, a part is empty, a substrings item has no part, an extensible item has neither description
+/// nor rule, or its rule right behind a description reads as `dn`.
 pub fn print_text(alloc: Global, filter: &Filter) -> Result<String, FilterTextError>
     // What is printed.
     ensures printed { IfOk result (λ s. string_bytes s ≡ grammar.filter_text (view filter.now)) }

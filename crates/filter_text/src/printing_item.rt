@@ -18,8 +18,10 @@ pub fn put_simple(
     operator: &str,
     value: &[u8],
 ) -> Result<(), AllocError>
-    ensures ok { OnOk result (string_bytes out.new ≡ string_bytes out.old ++ (description.now ++ (operator.now ++ printed_value value.now))) }
-    ensures kept { string_bytes out.new ≡ string_bytes out.old ++ drop (length (string_bytes out.old)) (string_bytes out.new) }
+    ensures ok { OnOk result (string_bytes out.new ≡ string_bytes
+        out.old ++ (description.now ++ (operator.now ++ printed_value value.now))) }
+    ensures kept { string_bytes out.new ≡ string_bytes out.old ++ drop (length (string_bytes out.old))
+        (string_bytes out.new) }
 {
     out.push_str(description)?;
     out.push_str(operator)?;
@@ -29,7 +31,8 @@ pub fn put_simple(
 /// Puts a description and `=*`.
 pub fn put_presence(out: &mut String, description: &str) -> Result<(), AllocError>
     ensures ok { OnOk result (string_bytes out.new ≡ string_bytes out.old ++ (description.now ++ 61 ∷ 42 ∷ [])) }
-    ensures kept { string_bytes out.new ≡ string_bytes out.old ++ drop (length (string_bytes out.old)) (string_bytes out.new) }
+    ensures kept { string_bytes out.new ≡ string_bytes out.old ++ drop (length (string_bytes out.old))
+        (string_bytes out.new) }
 {
     out.push_str(description)?;
     out.push_str("=*")
@@ -37,8 +40,10 @@ pub fn put_presence(out: &mut String, description: &str) -> Result<(), AllocErro
 
 /// Puts a part at an end, where there is one.
 fn put_part(out: &mut String, part: &Option<Vec<u8>>) -> Result<(), AllocError>
-    ensures ok { OnOk result (string_bytes out.new ≡ string_bytes out.old ++ items.printed_part (option_map (λ v. v.items) part.now)) }
-    ensures kept { string_bytes out.new ≡ string_bytes out.old ++ drop (length (string_bytes out.old)) (string_bytes out.new) }
+    ensures ok { OnOk result (string_bytes out.new ≡ string_bytes out.old ++ items.printed_part
+        (option_map (λ v. v.items) part.now)) }
+    ensures kept { string_bytes out.new ≡ string_bytes out.old ++ drop (length (string_bytes out.old))
+        (string_bytes out.new) }
 {
     match part {
         Some(value) => put_value(out, value),
@@ -48,8 +53,10 @@ fn put_part(out: &mut String, part: &Option<Vec<u8>>) -> Result<(), AllocError>
 
 /// Puts parts, an asterisk behind each.
 fn put_parts(out: &mut String, parts: &[Vec<u8>]) -> Result<(), AllocError>
-    ensures ok { OnOk result (string_bytes out.new ≡ string_bytes out.old ++ items.printed_parts (map (λ v. v.items) parts.now)) }
-    ensures kept { string_bytes out.new ≡ string_bytes out.old ++ drop (length (string_bytes out.old)) (string_bytes out.new) }
+    ensures ok { OnOk result (string_bytes out.new ≡ string_bytes out.old ++ items.printed_parts
+        (map (λ v. v.items) parts.now)) }
+    ensures kept { string_bytes out.new ≡ string_bytes out.old ++ drop (length (string_bytes out.old))
+        (string_bytes out.new) }
 {
     for part in parts {
         put_value(out, part)?;
@@ -60,8 +67,10 @@ fn put_parts(out: &mut String, parts: &[Vec<u8>]) -> Result<(), AllocError>
 
 /// Puts a substrings item.
 pub fn put_substrings(out: &mut String, filter: &SubstringFilter) -> Result<(), AllocError>
-    ensures ok { OnOk result (string_bytes out.new ≡ string_bytes out.old ++ items.printed_item (substrings (substrings_view filter.now))) }
-    ensures kept { string_bytes out.new ≡ string_bytes out.old ++ drop (length (string_bytes out.old)) (string_bytes out.new) }
+    ensures ok { OnOk result (string_bytes out.new ≡ string_bytes out.old ++ items.printed_item
+        (substrings (substrings_view filter.now))) }
+    ensures kept { string_bytes out.new ≡ string_bytes out.old ++ drop (length (string_bytes out.old))
+        (string_bytes out.new) }
 {
     out.push_str(filter.description.as_str())?;
     out.push('=')?;
@@ -73,8 +82,10 @@ pub fn put_substrings(out: &mut String, filter: &SubstringFilter) -> Result<(), 
 
 /// Puts a description, where there is one.
 fn put_description(out: &mut String, description: &Option<String>) -> Result<(), AllocError>
-    ensures ok { OnOk result (string_bytes out.new ≡ string_bytes out.old ++ items.part_or_nothing (option_map string_bytes description.now)) }
-    ensures kept { string_bytes out.new ≡ string_bytes out.old ++ drop (length (string_bytes out.old)) (string_bytes out.new) }
+    ensures ok { OnOk result (string_bytes out.new ≡ string_bytes out.old ++ items.part_or_nothing
+        (option_map string_bytes description.now)) }
+    ensures kept { string_bytes out.new ≡ string_bytes out.old ++ drop (length (string_bytes out.old))
+        (string_bytes out.new) }
 {
     match description {
         Some(description) => out.push_str(description.as_str()),
@@ -85,15 +96,18 @@ fn put_description(out: &mut String, description: &Option<String>) -> Result<(),
 /// Puts `:dn`, where the flag is set.
 fn put_flag(out: &mut String, flag: bool) -> Result<(), AllocError>
     ensures ok { OnOk result (string_bytes out.new ≡ string_bytes out.old ++ items.printed_flag flag) }
-    ensures kept { string_bytes out.new ≡ string_bytes out.old ++ drop (length (string_bytes out.old)) (string_bytes out.new) }
+    ensures kept { string_bytes out.new ≡ string_bytes out.old ++ drop (length (string_bytes out.old))
+        (string_bytes out.new) }
 {
     if flag { out.push_str(":dn") } else { Ok(()) }
 }
 
 /// Puts a colon and a rule, where there is one.
 fn put_rule(out: &mut String, rule: &Option<String>) -> Result<(), AllocError>
-    ensures ok { OnOk result (string_bytes out.new ≡ string_bytes out.old ++ items.rule_text (option_map string_bytes rule.now)) }
-    ensures kept { string_bytes out.new ≡ string_bytes out.old ++ drop (length (string_bytes out.old)) (string_bytes out.new) }
+    ensures ok { OnOk result (string_bytes out.new ≡ string_bytes out.old ++ items.rule_text
+        (option_map string_bytes rule.now)) }
+    ensures kept { string_bytes out.new ≡ string_bytes out.old ++ drop (length (string_bytes out.old))
+        (string_bytes out.new) }
 {
     match rule {
         Some(rule) => {
@@ -106,8 +120,10 @@ fn put_rule(out: &mut String, rule: &Option<String>) -> Result<(), AllocError>
 
 /// Puts an extensible item.
 pub fn put_extensible(out: &mut String, assertion: &MatchingRuleAssertion) -> Result<(), AllocError>
-    ensures ok { OnOk result (string_bytes out.new ≡ string_bytes out.old ++ items.printed_item (extensible (extensible_view assertion.now))) }
-    ensures kept { string_bytes out.new ≡ string_bytes out.old ++ drop (length (string_bytes out.old)) (string_bytes out.new) }
+    ensures ok { OnOk result (string_bytes out.new ≡ string_bytes out.old ++ items.printed_item
+        (extensible (extensible_view assertion.now))) }
+    ensures kept { string_bytes out.new ≡ string_bytes out.old ++ drop (length (string_bytes out.old))
+        (string_bytes out.new) }
 {
     put_description(out, &assertion.description)?;
     put_flag(out, assertion.dn_attributes)?;

@@ -31,7 +31,8 @@ fn digit(number: u8) -> u8
 fn put_ascii(out: &mut String, octet: u8) -> Result<(), AllocError>
     requires { octet < 128 }
     ensures ok { OnOk result (string_bytes out.new ≡ string_bytes out.old ++ octet ∷ []) }
-    ensures kept { string_bytes out.new ≡ string_bytes out.old ++ drop (length (string_bytes out.old)) (string_bytes out.new) }
+    ensures kept { string_bytes out.new ≡ string_bytes out.old ++ drop (length (string_bytes out.old))
+        (string_bytes out.new) }
 {
     out.push(char::from(octet))
 }
@@ -39,7 +40,8 @@ fn put_ascii(out: &mut String, octet: u8) -> Result<(), AllocError>
 /// Puts an octet behind a backslash.
 fn put_escape(out: &mut String, octet: u8) -> Result<(), AllocError>
     ensures ok { OnOk result (string_bytes out.new ≡ string_bytes out.old ++ values.escape octet) }
-    ensures kept { string_bytes out.new ≡ string_bytes out.old ++ drop (length (string_bytes out.old)) (string_bytes out.new) }
+    ensures kept { string_bytes out.new ≡ string_bytes out.old ++ drop (length (string_bytes out.old))
+        (string_bytes out.new) }
 {
     out.push('\\')?;
     put_ascii(out, digit(octet / 16))?;
@@ -49,7 +51,8 @@ fn put_escape(out: &mut String, octet: u8) -> Result<(), AllocError>
 /// Puts an octet that is no part of a character of several octets.
 fn put_alone(out: &mut String, octet: u8) -> Result<(), AllocError>
     ensures ok { OnOk result (string_bytes out.new ≡ string_bytes out.old ++ values.put_alone octet) }
-    ensures kept { string_bytes out.new ≡ string_bytes out.old ++ drop (length (string_bytes out.old)) (string_bytes out.new) }
+    ensures kept { string_bytes out.new ≡ string_bytes out.old ++ drop (length (string_bytes out.old))
+        (string_bytes out.new) }
 {
     if octet < 128 && is_normal(octet) {
         put_ascii(out, octet)
@@ -94,7 +97,8 @@ fn front(octets: &[u8], count: usize) -> Option<&str>
 /// The character at the front, where it has more octets than one.
 fn character(octets: &[u8]) -> Option<&str>
     ensures { MatchOption result (values.character_len octets.now ≡ 0)
-        (λ t. (values.character_len octets.now ≡ length t.now) × (values.is_character (length t.now) octets.now ≡ true) × (0 < length t.now)
+        (λ t. (values.character_len octets.now ≡ length t.now) × (values.is_character (length t.now) octets.now ≡
+        true) × (0 < length t.now)
         × (t.now ≡ take (length t.now) octets.now)) }
 {
     if let Some(text) = front(octets, 2) {
@@ -109,8 +113,11 @@ fn character(octets: &[u8]) -> Option<&str>
 /// Puts the first character, or the first octet, and answers how many octets it had.
 fn put_first(out: &mut String, octets: &[u8]) -> Result<usize, AllocError>
     requires { 0 < length octets.now }
-    ensures ok { IfOk result (λ n. (0 < n) × (n ≤ length octets.now) × (string_bytes out.new ++ values.printed_from 0 (drop n octets.now) ≡ string_bytes out.old ++ values.printed_from 0 octets.now)) }
-    ensures kept { string_bytes out.new ≡ string_bytes out.old ++ drop (length (string_bytes out.old)) (string_bytes out.new) }
+    ensures ok { IfOk result (λ n. (0 < n) × (n ≤ length octets.now)
+        × (string_bytes out.new ++ values.printed_from 0 (drop n octets.now) ≡ string_bytes
+        out.old ++ values.printed_from 0 octets.now)) }
+    ensures kept { string_bytes out.new ≡ string_bytes out.old ++ drop (length (string_bytes out.old))
+        (string_bytes out.new) }
 {
     match character(octets) {
         Some(text) => {
@@ -127,7 +134,8 @@ fn put_first(out: &mut String, octets: &[u8]) -> Result<usize, AllocError>
 /// Puts a value.
 pub fn put_value(out: &mut String, value: &[u8]) -> Result<(), AllocError>
     ensures ok { OnOk result (string_bytes out.new ≡ string_bytes out.old ++ values.printed_value value.now) }
-    ensures kept { string_bytes out.new ≡ string_bytes out.old ++ drop (length (string_bytes out.old)) (string_bytes out.new) }
+    ensures kept { string_bytes out.new ≡ string_bytes out.old ++ drop (length (string_bytes out.old))
+        (string_bytes out.new) }
 {
     let mut rest = value;
     while !rest.is_empty() {

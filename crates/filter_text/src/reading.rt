@@ -162,7 +162,8 @@ fn row_of(
 }
 
 /// The filter that a text spells (RFC 4515 3, RFC 4526 2). E18 where it spells none, with the length in octets of its
-/// longest front that begins some filter's text; else E9 where the filter is more than 128 deep, E10 where it has more than 512 items.
+/// longest front that begins some filter's text; else E9 where the filter is more than 128 deep, E10 where it has more
+/// than 512 items.
 pub fn read_text(alloc: Global, text: &str) -> Result<Filter, FilterTextError>
     // What is read is the filter that the text spells, within the limits.
     ensures found { IfOk result (λ f.

@@ -44,11 +44,11 @@ impl Indexes {
         }
     }
 
-    /// The index choice of a text: a line is a name or an object identifier (RFC 4512 1.4), a colon, and `pres`, `eq`, `ord` or `sub`
-    /// once or more, with a space before each; a type that is named again has the indexes of all its lines. Empty lines and lines
-    /// that begin with `#` are skipped. The first thing that is wrong is named with its line: the first line that is none such
-    /// (E12), else the first whose name is of no type (E13), else the first that asks for an index by a rule that its type lacks
-    /// (E16).
+    /// The index choice of a text: a line is a name or an object identifier (RFC 4512 1.4), a colon, and `pres`, `eq`,
+    /// `ord` or `sub` once or more, with a space before each; a type that is named again has the indexes of all its
+    /// lines. Empty lines and lines that begin with `#` are skipped. The first thing that is wrong is named with its
+    /// line: the first line that is none such (E12), else the first whose name is of no type (E13), else the first that
+    /// asks for an index by a rule that its type lacks (E16).
     pub fn read(alloc: Global, schema: &Schema, text: &str) -> Result<Indexes, IndexError>
         ensures found { IfOk result (IsChoiceOf schema.now text.now) }
 

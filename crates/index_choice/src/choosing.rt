@@ -40,7 +40,8 @@ fn reach(kinds: &mut Vec<Kinds>, number: usize) -> Result<(), AllocError>
 
 /// Gives a type more kinds. An `Err` leaves each type the kinds that it had.
 fn add_kinds(kinds: &mut Vec<Kinds>, type_id: TypeId, more: Kinds) -> Result<(), AllocError>
-    ensures ok { OnOk result ((t : ℕ) → kinds_of kinds.new.items t ≡ cond (nat_eq type_id t) (joined_kinds (kinds_of kinds.old.items t) more) (kinds_of kinds.old.items t)) }
+    ensures ok { OnOk result ((t : ℕ) → kinds_of kinds.new.items t ≡ cond (nat_eq type_id t)
+        (joined_kinds (kinds_of kinds.old.items t) more) (kinds_of kinds.old.items t)) }
     ensures err { OnErr result ((t : ℕ) → kinds_of kinds.new.items t ≡ kinds_of kinds.old.items t) }
 {
     let number = type_id.number();

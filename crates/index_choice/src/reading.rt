@@ -139,8 +139,10 @@ fn push_line(
     line: &[u8],
     said: &mut Vec<IndexLine>,
 ) -> Result<(), IndexError>
-    ensures ok { OnOk result ((rest : Result (List IndexLine) ℕ) → after said.new.items rest ≡ after said.old.items (line_said schema.now number line.now rest)) }
-    ensures refused { IfErr result (λ e. (rest : Result (List IndexLine) ℕ) → IsBadLine (line_said schema.now number line.now rest) e) }
+    ensures ok { OnOk result ((rest : Result (List IndexLine) ℕ) → after said.new.items rest ≡ after said.old.items
+        (line_said schema.now number line.now rest)) }
+    ensures refused { IfErr result (λ e. (rest : Result (List IndexLine) ℕ) →
+        IsBadLine (line_said schema.now number line.now rest) e) }
     ensures err { OnErr result (said.new.items ≡ said.old.items) }
 {
     if is_skipped(line) {

@@ -157,7 +157,8 @@ impl IndexedTree {
               record {
                 suffix = self.old.tree.suffix;
                 entries = moved (rdns name.now)
-                    (name_placed (rdns self.old.tree.suffix) new_name self.old.tree.entries) new_entry self.old.tree.entries;
+                    (name_placed (rdns self.old.tree.suffix) new_name self.old.tree.entries) new_entry
+                    self.old.tree.entries;
               };
         }) }
         ensures err { OnErr result (self.new ≡ self.old) }

@@ -12,12 +12,14 @@ use crate::reader::StringReader;
 use std::alloc::Global;
 
 impl<D: Device> Journal<D> {
-    /// Reads a journal that is to hold nothing: a reader in front of what stands there; none where it holds something. Nothing is written.
+    /// Reads a journal that is to hold nothing: a reader in front of what stands there; none where it holds something.
+    /// Nothing is written.
     pub fn read_empty(&mut self, alloc: Global) -> Result<Option<StringReader>, JournalError>
         // After a restart, what is read is what is on the disk.
         requires { Only (D.seen self.old.device) (D.may_leave self.old.device) }
         ensures read { IfOk result (λ found. IfSome found (λ reader. HasRead reader (D.seen self.new.device))) }
-        ensures none { IfOk result (λ found. IfSome found (λ reader. is_whole (drop reader.end (D.seen self.new.device)) ≡ false)) }
+        ensures none { IfOk result
+            (λ found. IfSome found (λ reader. is_whole (drop reader.end (D.seen self.new.device)) ≡ false)) }
         ensures empty { IfOk result (λ found. IfSome found (λ reader. recorded (D.seen self.old.device) ≡ [])) }
         ensures not_empty { IfOk result (λ found. found ≡ None → recorded (D.seen self.old.device) ≢ []) }
         ensures seen { D.seen self.new.device ≡ D.seen self.old.device }
@@ -35,8 +37,8 @@ impl<D: Device> Journal<D> {
         Ok(Some(reader))
     }
 
-    /// Clears what stands behind the strings that a reader has read, where no frame stands; the journal may be written to then. A crash at any
-    /// moment of the call leaves the same strings. Out of memory, nothing is written.
+    /// Clears what stands behind the strings that a reader has read, where no frame stands; the journal may be written
+    /// to then. A crash at any moment of the call leaves the same strings. Out of memory, nothing is written.
     pub fn clear_behind(&mut self, alloc: Global, reader: &StringReader) -> Result<(), JournalError>
         requires read { HasRead reader.now (D.seen self.old.device) }
         requires none { is_whole (drop reader.now.end (D.seen self.old.device)) ≡ false }

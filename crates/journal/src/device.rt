@@ -10,8 +10,8 @@ use thiserror::Error;
 #[error("the device failed")]
 pub struct DeviceFailure;
 
-/// Octets that outlive a crash. Between two syncs each octet of a written range is, after a crash, what was there or what
-/// was written; other octets stay; after a sync that succeeded a crash leaves what a read gives.
+/// Octets that outlive a crash. Between two syncs each octet of a written range is, after a crash, what was there or
+/// what was written; other octets stay; after a sync that succeeded a crash leaves what a read gives.
 pub trait Device {
     /// The octets that a read gives.
     ghost seen: { Self → List ℕ };
@@ -33,7 +33,8 @@ pub trait Device {
         ensures length { IfOk result (λ n. n ≡ length (seen self.old)) }
         ensures seen { seen self.new ≡ seen self.old }
         ensures crash { (c : List ℕ) → may_leave self.new c → may_leave self.old c }
-        ensures time { Elapses (moment self.old) (moment self.new) (left_since self.old) (left_since self.new) (may_leave self.new) }
+        ensures time { Elapses (moment self.old) (moment self.new) (left_since self.old) (left_since self.new)
+            (may_leave self.new) }
         ensures cause { HasCause (failure_count self.old) (failure_count self.new) result };
 
     /// Fills the buffer with the octets from a place on.
@@ -42,24 +43,29 @@ pub trait Device {
         ensures octets { OnOk result (buffer.new ≡ take (length buffer.old) (drop at (seen self.old))) }
         ensures seen { seen self.new ≡ seen self.old }
         ensures crash { (c : List ℕ) → may_leave self.new c → may_leave self.old c }
-        ensures time { Elapses (moment self.old) (moment self.new) (left_since self.old) (left_since self.new) (may_leave self.new) }
+        ensures time { Elapses (moment self.old) (moment self.new) (left_since self.old) (left_since self.new)
+            (may_leave self.new) }
         ensures cause { HasCause (failure_count self.old) (failure_count self.new) result };
 
-    /// The octets before a place won't be read again. A device that keeps octets may let go of these; a read of them may fail then.
+    /// The octets before a place won't be read again. A device that keeps octets may let go of these; a read of them
+    /// may fail then.
     fn forget(&mut self, before: u64)
         ensures seen { seen self.new ≡ seen self.old }
         ensures crash { (c : List ℕ) → may_leave self.new c → may_leave self.old c }
-        ensures time { Elapses (moment self.old) (moment self.new) (left_since self.old) (left_since self.new) (may_leave self.new) }
+        ensures time { Elapses (moment self.old) (moment self.new) (left_since self.old) (left_since self.new)
+            (may_leave self.new) }
         ensures later { failure_count self.old ≤ failure_count self.new };
 
-    /// Writes over what is there. Until a sync, a crash may leave each octet of the range as it was or as it is written;
-    /// so may a write that failed. After that one a read gives each octet of the range as it was or as it was to be written.
+    /// Writes over what is there. Until a sync, a crash may leave each octet of the range as it was or as it is
+    /// written; so may a write that failed. After that one a read gives each octet of the range as it was or as it was
+    /// to be written.
     fn write_at(&mut self, at: u64, octets: &[u8]) -> Result<(), DeviceFailure>
         requires { at + length octets.now ≤ length (seen self.old) }
         ensures written { OnOk result (Holds (seen self.old) at octets.now (seen self.new)) }
         ensures failed { OnErr result (Mixed at octets.now (seen self.old) (seen self.new)) }
         ensures crash { Follows (Mixed at octets.now) (may_leave self.old) (may_leave self.new) }
-        ensures time { Elapses (moment self.old) (moment self.new) (left_since self.old) (left_since self.new) (may_leave self.new) }
+        ensures time { Elapses (moment self.old) (moment self.new) (left_since self.old) (left_since self.new)
+            (may_leave self.new) }
         ensures cause { HasCause (failure_count self.old) (failure_count self.new) result };
 
     /// After it, a crash leaves what a read gives.
@@ -67,22 +73,26 @@ pub trait Device {
         ensures durable { OnOk result (Only (seen self.old) (may_leave self.new)) }
         ensures seen { seen self.new ≡ seen self.old }
         ensures crash { (c : List ℕ) → may_leave self.new c → may_leave self.old c }
-        ensures time { Elapses (moment self.old) (moment self.new) (left_since self.old) (left_since self.new) (may_leave self.new) }
+        ensures time { Elapses (moment self.old) (moment self.new) (left_since self.old) (left_since self.new)
+            (may_leave self.new) }
         ensures cause { HasCause (failure_count self.old) (failure_count self.new) result };
 
-    /// Joins so many zeros to the end and settles them: a crash after it leaves them behind what it might have left before. A
-    /// crash during it, or after an error, leaves some first of them there.
+    /// Joins so many zeros to the end and settles them: a crash after it leaves them behind what it might have left
+    /// before. A crash during it, or after an error, leaves some first of them there.
     fn grow(&mut self, octets: u64) -> Result<(), GrowthError>
         ensures grown { OnOk result (seen self.new ≡ seen self.old ++ replicate octets 0) }
         ensures durable { OnOk result (Follows (Longer octets) (may_leave self.old) (may_leave self.new)) }
         ensures full { IsErrOf result GrowthError.Full → seen self.new ≡ seen self.old }
         ensures crash { Follows (Grown octets) (may_leave self.old) (may_leave self.new) }
-        ensures time { Elapses (moment self.old) (moment self.new) (left_since self.old) (left_since self.new) (may_leave self.new) }
+        ensures time { Elapses (moment self.old) (moment self.new) (left_since self.old) (left_since self.new)
+            (may_leave self.new) }
         ensures later { failure_count self.old ≤ failure_count self.new }
-        ensures cause { IsErrOf result GrowthError.DeviceFailed → HasRisen (failure_count self.old) (failure_count self.new) };
+        ensures cause { IsErrOf result GrowthError.DeviceFailed → HasRisen (failure_count self.old)
+            (failure_count self.new) };
 
     /// This moment is one of those since an earlier one.
-    ghost counts_now: { (device : Self) (t : ℕ) (c : List ℕ) → t ≤ moment device → may_leave device c → left_since device t c };
+    ghost counts_now: { (device : Self) (t : ℕ) (c : List ℕ) → t ≤ moment device → may_leave device c →
+        left_since device t c };
 
     /// Since this moment there is no other.
     ghost only_now: { (device : Self) (c : List ℕ) → left_since device (moment device) c → may_leave device c };

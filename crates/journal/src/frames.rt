@@ -69,8 +69,8 @@ fn put_frame(out: &mut Vec<u8>, string: &[u8]) -> Result<(), AllocError>
     out.extend_from_slice(string)
 }
 
-/// Adds the frame of a string. At an error, which is want of memory, nothing has changed; where there is room for the frame,
-/// there is none.
+/// Adds the frame of a string. At an error, which is want of memory, nothing has changed; where there is room for the
+/// frame, there is none.
 pub fn put_string(out: &mut Vec<u8>, string: &[u8]) -> Result<(), AllocError>
     ensures ok { OnOk result (out.new.items ≡ out.old.items ++ frame string.now) }
     ensures err { OnErr result (out.new.items ≡ out.old.items) }

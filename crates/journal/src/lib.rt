@@ -1,15 +1,16 @@
 //! A journal: strings of octets on a device. One write and one sync settle a batch of them; after a crash each is found
 //! whole or not at all, by counting, with no checksum to trust. What a string means is said by the crate above.
 //!
-//! Keeps strings of octets on a device. A batch is settled by one write and one sync over zeros that were settled before. So a count of
-//! octets that aren't zero tells a torn frame (`frames`, `journal`; docs/FORMATS.md). A `StringReader` reads the strings one by one from
-//! a window of the device's octets, and clears what a crash left behind them (`scanning`, `zeroing`). A full device grows: zeros join its
-//! end and are settled before anything is written over them (`reserving`). `memory` is a device for tests, `crashing` what a crash leaves
-//! of it, `opening` reads all strings at once, for comparison.
+//! Keeps strings of octets on a device. A batch is settled by one write and one sync over zeros that were settled
+//! before. So a count of octets that aren't zero tells a torn frame (`frames`, `journal`; docs/FORMATS.md). A
+//! `StringReader` reads the strings one by one from a window of the device's octets, and clears what a crash left
+//! behind them (`scanning`, `zeroing`). A full device grows: zeros join its end and are settled before anything is
+//! written over them (`reserving`). `memory` is a device for tests, `crashing` what a crash leaves of it, `opening`
+//! reads all strings at once, for comparison.
 //!
-//! Proved, where a crash leaves each unsynced octet old or new: a crash in an append leaves the former strings and some first of the new
-//! ones, after Ok all (`Journal::append`). A crash in reading, clearing or growing leaves the strings (`StringReader::advance`,
-//! `StringReader::clear`, `Journal::reserve`).
+//! Proved, where a crash leaves each unsynced octet old or new: a crash in an append leaves the former strings and some
+//! first of the new ones, after Ok all (`Journal::append`). A crash in reading, clearing or growing leaves the strings
+//! (`StringReader::advance`, `StringReader::clear`, `Journal::reserve`).
 #![tactic(auto)]
 
 mod beginning;

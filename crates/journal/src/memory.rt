@@ -31,7 +31,12 @@ impl Model for MemoryDevice {
     ghost use Rattle.journal.specs.Memory.{event};
     ghost use Rattle.journal.specs.private.Memory.{IsReplayed};
 
-    ghost view = { λ m. record { base = m.base.items; events = reverse (map event m.calls.items); failures = m.failures } };
+    ghost view = { λ m. record {
+      base = m.base.items;
+      events = reverse (map event m.calls.items);
+      failures =
+          m.failures;
+    } };
 
     ghost invariant = { λ m. IsReplayed m.base.items (reverse (map event m.calls.items)) m.bytes.items };
 }
@@ -40,8 +45,8 @@ impl MemoryDevice {
     ghost use Rattle.journal.specs.Memory.{seen_after, MayLeave, event, write, grow};
     ghost use Rattle.journal.specs.private.Memory.{FitsIn, counted};
 
-    /// A device that holds these bytes, all of them settled, with room for the record of so many calls. A call past that
-    /// fails.
+    /// A device that holds these bytes, all of them settled, with room for the record of so many calls. A call past
+    /// that fails.
     pub fn new(
         alloc: Global,
         bytes: Vec<u8>,
@@ -78,7 +83,8 @@ impl MemoryDevice {
 
     /// Records a call that changes nothing that a read gives.
     pub(crate) fn note(&mut self, call: Call) -> Result<(), DeviceFailure>
-        requires same { seen_after self.old.base (event call ∷ self.old.events) ≡ seen_after self.old.base self.old.events }
+        requires same { seen_after self.old.base (event call ∷ self.old.events) ≡ seen_after self.old.base
+            self.old.events }
         requires may_be_left { let seen = seen_after self.old.base self.old.events in
             MayLeave self.old.base self.old.events seen → MayLeave self.old.base (event call ∷ self.old.events) seen }
         requires less { (c : List ℕ) → MayLeave self.old.base (event call ∷ self.old.events) c
@@ -106,9 +112,13 @@ impl MemoryDevice {
         is_done: bool,
     ) -> Result<(), AllocError>
         requires { at + length octets.now ≤ length (seen_after self.old.base self.old.events) }
-        ensures ok { OnOk result (self.new ≡ record self.old { events = write at octets.now is_done ∷ self.old.events }) }
+        ensures ok { OnOk result (self.new ≡ record self.old {
+          events = write at octets.now
+              is_done ∷ self.old.events;
+        }) }
         ensures err { OnErr result (self.new ≡ self.old) }
-        ensures long { (c : List ℕ) → MayLeave self.old.base self.old.events c → length (seen_after self.old.base self.old.events) ≤ length c }
+        ensures long { (c : List ℕ) → MayLeave self.old.base self.old.events c →
+            length (seen_after self.old.base self.old.events) ≤ length c }
     {
         let octets = octets.to_vec(self.alloc)?;
         if is_done {

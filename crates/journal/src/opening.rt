@@ -31,17 +31,20 @@ pub fn read_strings(alloc: Global, octets: &[u8]) -> Result<DeviceContents, Allo
     Ok(DeviceContents { strings, end })
 }
 
-/// Opens a device that a crash may have left: gives all its strings at once, and clears all behind them. A crash at any moment of
-/// the call leaves the same strings. What takes memory comes before anything is written. `StringReader` gives the same strings one
-/// by one; tests compare.
+/// Opens a device that a crash may have left: gives all its strings at once, and clears all behind them. A crash at any
+/// moment of the call leaves the same strings. What takes memory comes before anything is written. `StringReader` gives
+/// the same strings one by one; tests compare.
 pub fn open<D: Device>(alloc: Global, device: &mut D) -> Result<DeviceContents, JournalError>
     // After a restart, what is read is what is on the disk.
     requires { Only (D.seen device.old) (D.may_leave device.old) }
     ensures strings { IfOk result (λ found. octets_of found.strings.items ≡ recorded (D.seen device.old)) }
-    ensures settled { IfOk result (λ found. IsSettled (D.seen device.new) (D.may_leave device.new) (recorded (D.seen device.old)) found.end) }
-    ensures any_moment { LeavesOnly D.moment D.left_since device.old device.new (λ c. recorded c ≡ recorded (D.seen device.old)) }
+    ensures settled { IfOk result (λ found. IsSettled (D.seen device.new) (D.may_leave device.new)
+        (recorded (D.seen device.old)) found.end) }
+    ensures any_moment { LeavesOnly D.moment D.left_since device.old device.new (λ c. recorded c ≡
+        recorded (D.seen device.old)) }
     ensures later { D.failure_count device.old ≤ D.failure_count device.new }
-    ensures failed { IsErrOf result JournalError.DeviceFailed → HasRisen (D.failure_count device.old) (D.failure_count device.new) }
+    ensures failed { IsErrOf result JournalError.DeviceFailed → HasRisen (D.failure_count device.old)
+        (D.failure_count device.new) }
 {
     let octets = read_all(alloc, device)?;
     let found = read_strings(alloc, &octets)?;
@@ -55,9 +58,11 @@ fn read_all<D: Device>(alloc: Global, device: &mut D) -> Result<Vec<u8>, Journal
     ensures octets { IfOk result (λ octets. octets.items ≡ D.seen device.old) }
     ensures seen { D.seen device.new ≡ D.seen device.old }
     ensures durable { Only (D.seen device.new) (D.may_leave device.new) }
-    ensures any_moment { LeavesOnly D.moment D.left_since device.old device.new (λ c. recorded c ≡ recorded (D.seen device.old)) }
+    ensures any_moment { LeavesOnly D.moment D.left_since device.old device.new (λ c. recorded c ≡
+        recorded (D.seen device.old)) }
     ensures later { D.failure_count device.old ≤ D.failure_count device.new }
-    ensures failed { IsErrOf result JournalError.DeviceFailed → HasRisen (D.failure_count device.old) (D.failure_count device.new) }
+    ensures failed { IsErrOf result JournalError.DeviceFailed → HasRisen (D.failure_count device.old)
+        (D.failure_count device.new) }
 {
     let length = device.len()?;
     let mut octets = vec![in alloc; 0u8; length as usize]?;

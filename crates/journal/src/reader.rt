@@ -1,8 +1,9 @@
-//! A reader of a device's strings, as a value: a window of the device's octets, and where the string that was read last stands in it.
+//! A reader of a device's strings, as a value: a window of the device's octets, and where the string that was read last
+//! stands in it.
 ghost use Rattle.std.specs.Prelude.{◌≤◌, vec_len};
 
-/// Reads the strings of a device one after another, by a window of its octets. It holds no more of them than a piece, or than the
-/// longest string needs.
+/// Reads the strings of a device one after another, by a window of its octets. It holds no more of them than a piece,
+/// or than the longest string needs.
 #[derive(Drop)]
 pub struct StringReader {
     /// Where the frame of the last string ends on the device.

@@ -14,8 +14,8 @@ const MOST: u64 = 0x8000_0000_0000_0000;
 /// A device grows by whole steps of so many octets: a growth costs a sync of its own, and changes the size of a file.
 const STEP: u64 = 0x10_0000;
 
-/// How many octets a device must grow by, so that so many find room behind the end: none where they do, else whole steps. There is
-/// no answer where the device would have too many.
+/// How many octets a device must grow by, so that so many find room behind the end: none where they do, else whole
+/// steps. There is no answer where the device would have too many.
 fn growth(length: u64, end: u64, octets: u64) -> Option<u64>
     ensures room { IfSome result (λ more. end + octets ≤ length + more) }
     ensures small { IfSome result (λ more. length + more < 2 ^ 63) }
@@ -38,11 +38,12 @@ fn growth(length: u64, end: u64, octets: u64) -> Option<u64>
 }
 
 impl<D: Device> Journal<D> {
-    /// Makes room for so many octets behind the end, where there is too little: zeros join the device's end, and are settled
-    /// before anything is written over them. The strings stay, also at a crash at any moment of the call. `Full` where the
-    /// device can't grow so far.
+    /// Makes room for so many octets behind the end, where there is too little: zeros join the device's end, and are
+    /// settled before anything is written over them. The strings stay, also at a crash at any moment of the call.
+    /// `Full` where the device can't grow so far.
     pub fn reserve(&mut self, octets: u64) -> Result<(), GrowthError>
-        requires { IsSettled (D.seen self.old.device) (D.may_leave self.old.device) (recorded (D.seen self.old.device)) self.old.end }
+        requires { IsSettled (D.seen self.old.device) (D.may_leave self.old.device)
+            (recorded (D.seen self.old.device)) self.old.end }
         ensures settled { OnOk result (IsSettled (D.seen self.new.device) (D.may_leave self.new.device)
             (recorded (D.seen self.new.device)) self.new.end) }
         ensures strings { OnOk result (recorded (D.seen self.new.device) ≡ recorded (D.seen self.old.device)) }

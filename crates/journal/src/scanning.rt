@@ -1,4 +1,5 @@
-//! Reads a device's strings one after another. Octets are read by pieces, and each string is looked at where its piece lies.
+//! Reads a device's strings one after another. Octets are read by pieces, and each string is looked at where its piece
+//! lies.
 ghost use Rattle.std.specs.Prelude.{◌≡◌, ◌≤◌, ◌<◌, ◌+◌, ◌-◌, ◌^◌, ◌++◌, length, min, take, drop, false, IfOk, OnOk, IsErrOf, vec_len};
 ghost use Rattle.journal.specs.Device.{HasCause, HasRisen, LeavesOnly, Only};
 ghost use Rattle.journal.specs.Frames.{is_whole, recorded};
@@ -23,8 +24,8 @@ fn leave_out(octets: &mut Vec<u8>, count: usize)
     octets.truncate(kept);
 }
 
-/// Joins octets of a device, from a place on, to those in memory; the device is told that these and all before won't be read again.
-/// After an error these are of no use.
+/// Joins octets of a device, from a place on, to those in memory; the device is told that these and all before won't be
+/// read again. After an error these are of no use.
 fn read_more<D: Device>(
     device: &mut D,
     octets: &mut Vec<u8>,
@@ -37,9 +38,11 @@ fn read_more<D: Device>(
     ensures octets { OnOk result (octets.new.items ≡ octets.old.items ++ take more (drop at (D.seen device.old))) }
     ensures seen { D.seen device.new ≡ D.seen device.old }
     ensures durable { Only (D.seen device.new) (D.may_leave device.new) }
-    ensures any_moment { LeavesOnly D.moment D.left_since device.old device.new (λ c. recorded c ≡ recorded (D.seen device.old)) }
+    ensures any_moment { LeavesOnly D.moment D.left_since device.old device.new (λ c. recorded c ≡
+        recorded (D.seen device.old)) }
     ensures later { D.failure_count device.old ≤ D.failure_count device.new }
-    ensures failed { IsErrOf result JournalError.DeviceFailed → HasRisen (D.failure_count device.old) (D.failure_count device.new) }
+    ensures failed { IsErrOf result JournalError.DeviceFailed → HasRisen (D.failure_count device.old)
+        (D.failure_count device.new) }
 {
     let held = octets.len();
     octets.resize(held + more, 0)?;
@@ -56,7 +59,8 @@ impl StringReader {
         ensures end { IfOk result (λ reader. reader.end ≡ 0) }
         ensures seen { D.seen device.new ≡ D.seen device.old }
         ensures durable { Only (D.seen device.new) (D.may_leave device.new) }
-        ensures any_moment { LeavesOnly D.moment D.left_since device.old device.new (λ c. recorded c ≡ recorded (D.seen device.old)) }
+        ensures any_moment { LeavesOnly D.moment D.left_since device.old device.new (λ c. recorded c ≡
+            recorded (D.seen device.old)) }
         ensures cause { HasCause (D.failure_count device.old) (D.failure_count device.new) result }
     {
         let size = device.len()?;
@@ -102,33 +106,39 @@ impl StringReader {
         requires there { at + more ≤ length (D.seen device.old) }
         requires fits { vec_len self.old.window + more < 2 ^ 64 }
         requires string { self.old.string_end ≡ 0 }
-        ensures octets { OnOk result (self.new.window.items ≡ self.old.window.items ++ take more (drop at (D.seen device.old))) }
+        ensures octets { OnOk result (self.new.window.items ≡ self.old.window.items ++ take more
+            (drop at (D.seen device.old))) }
         ensures string { self.new.string_end ≡ 0 }
         ensures end { self.new.end ≡ self.old.end }
         ensures size { self.new.size ≡ self.old.size }
         ensures seen { D.seen device.new ≡ D.seen device.old }
         ensures durable { Only (D.seen device.new) (D.may_leave device.new) }
-        ensures any_moment { LeavesOnly D.moment D.left_since device.old device.new (λ c. recorded c ≡ recorded (D.seen device.old)) }
+        ensures any_moment { LeavesOnly D.moment D.left_since device.old device.new (λ c. recorded c ≡
+            recorded (D.seen device.old)) }
         ensures later { D.failure_count device.old ≤ D.failure_count device.new }
-        ensures failed { IsErrOf result JournalError.DeviceFailed → HasRisen (D.failure_count device.old) (D.failure_count device.new) }
+        ensures failed { IsErrOf result JournalError.DeviceFailed → HasRisen (D.failure_count device.old)
+            (D.failure_count device.new) }
     {
         read_more(device, &mut self.window, at, more)
     }
 
-    /// Has so many octets ahead, or all that the device has; it reads a piece where there are fewer. After an error the reader is
-    /// of no use.
+    /// Has so many octets ahead, or all that the device has; it reads a piece where there are fewer. After an error the
+    /// reader is of no use.
     fn fill<D: Device>(&mut self, device: &mut D, wanted: u64) -> Result<(), JournalError>
         requires read { HasRead self.old (D.seen device.old) }
         requires durable { Only (D.seen device.old) (D.may_leave device.old) }
         ensures read { OnOk result (HasRead self.new (D.seen device.new)) }
-        ensures filled { OnOk result (min wanted (length (D.seen device.old) - self.old.end) ≤ length (ahead self.new)) }
+        ensures filled { OnOk result (min wanted (length (D.seen device.old) - self.old.end) ≤ length
+            (ahead self.new)) }
         ensures end { self.new.end ≡ self.old.end }
         ensures size { self.new.size ≡ self.old.size }
         ensures seen { D.seen device.new ≡ D.seen device.old }
         ensures durable { Only (D.seen device.new) (D.may_leave device.new) }
-        ensures any_moment { LeavesOnly D.moment D.left_since device.old device.new (λ c. recorded c ≡ recorded (D.seen device.old)) }
+        ensures any_moment { LeavesOnly D.moment D.left_since device.old device.new (λ c. recorded c ≡
+            recorded (D.seen device.old)) }
         ensures later { D.failure_count device.old ≤ D.failure_count device.new }
-        ensures failed { IsErrOf result JournalError.DeviceFailed → HasRisen (D.failure_count device.old) (D.failure_count device.new) }
+        ensures failed { IsErrOf result JournalError.DeviceFailed → HasRisen (D.failure_count device.old)
+            (D.failure_count device.new) }
     {
         let held = self.ahead().len() as u64;
         let left = self.size - self.end - held;
@@ -157,8 +167,8 @@ impl StringReader {
         }
     }
 
-    /// Reads the next string; whether there is one. A header that announces more than the device has is no frame. A crash at any
-    /// moment of the call leaves the same strings; after an error the reader is of no use.
+    /// Reads the next string; whether there is one. A header that announces more than the device has is no frame. A
+    /// crash at any moment of the call leaves the same strings; after an error the reader is of no use.
     pub fn advance<D: Device>(&mut self, device: &mut D) -> Result<bool, JournalError>
         requires read { HasRead self.old (D.seen device.old) }
         requires durable { Only (D.seen device.old) (D.may_leave device.old) }
@@ -166,9 +176,11 @@ impl StringReader {
         ensures read { OnOk result (HasRead self.new (D.seen device.new)) }
         ensures seen { D.seen device.new ≡ D.seen device.old }
         ensures durable { Only (D.seen device.new) (D.may_leave device.new) }
-        ensures any_moment { LeavesOnly D.moment D.left_since device.old device.new (λ c. recorded c ≡ recorded (D.seen device.old)) }
+        ensures any_moment { LeavesOnly D.moment D.left_since device.old device.new (λ c. recorded c ≡
+            recorded (D.seen device.old)) }
         ensures later { D.failure_count device.old ≤ D.failure_count device.new }
-        ensures failed { IsErrOf result JournalError.DeviceFailed → HasRisen (D.failure_count device.old) (D.failure_count device.new) }
+        ensures failed { IsErrOf result JournalError.DeviceFailed → HasRisen (D.failure_count device.old)
+            (D.failure_count device.new) }
     {
         self.fill(device, HEADER as u64)?;
         let Some(octets) = announced(self.ahead()) else {
@@ -181,17 +193,20 @@ impl StringReader {
         Ok(self.take_frame())
     }
 
-    /// Clears all behind the last string, where no frame stands; nothing of the device is read again. A crash at any moment of the call leaves the same strings. Out
-    /// of memory, nothing is written.
+    /// Clears all behind the last string, where no frame stands; nothing of the device is read again. A crash at any
+    /// moment of the call leaves the same strings. Out of memory, nothing is written.
     pub fn clear<D: Device>(&self, alloc: Global, device: &mut D) -> Result<(), JournalError>
         requires read { HasRead self.now (D.seen device.old) }
         requires none { is_whole (drop self.now.end (D.seen device.old)) ≡ false }
         requires durable { Only (D.seen device.old) (D.may_leave device.old) }
-        ensures settled { OnOk result (IsSettled (D.seen device.new) (D.may_leave device.new) (recorded (D.seen device.old)) self.now.end) }
-        ensures any_moment { LeavesOnly D.moment D.left_since device.old device.new (λ c. recorded c ≡ recorded (D.seen device.old)) }
+        ensures settled { OnOk result (IsSettled (D.seen device.new) (D.may_leave device.new)
+            (recorded (D.seen device.old)) self.now.end) }
+        ensures any_moment { LeavesOnly D.moment D.left_since device.old device.new (λ c. recorded c ≡
+            recorded (D.seen device.old)) }
         ensures no_memory { IsErrOf result JournalError.NoMemory → D.seen device.new ≡ D.seen device.old }
         ensures later { D.failure_count device.old ≤ D.failure_count device.new }
-        ensures failed { IsErrOf result JournalError.DeviceFailed → HasRisen (D.failure_count device.old) (D.failure_count device.new) }
+        ensures failed { IsErrOf result JournalError.DeviceFailed → HasRisen (D.failure_count device.old)
+            (D.failure_count device.new) }
     {
         device.forget(self.size);
         clear(alloc, device, self.end, self.size)

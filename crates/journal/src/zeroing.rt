@@ -27,7 +27,8 @@ fn clear_header<D: Device>(
     requires room { end + room ≡ length (D.seen device.old) }
     ensures cleared { OnOk result (Cleared (recorded (D.seen device.old)) end (min room 10) room (D.seen device.new)) }
     ensures durable { OnOk result (Only (D.seen device.new) (D.may_leave device.new)) }
-    ensures any_moment { LeavesOnly D.moment D.left_since device.old device.new (λ c. recorded c ≡ recorded (D.seen device.old)) }
+    ensures any_moment { LeavesOnly D.moment D.left_since device.old device.new (λ c. recorded c ≡
+        recorded (D.seen device.old)) }
     ensures cause { HasCause (D.failure_count device.old) (D.failure_count device.new) result }
 {
     device.write_at(end, zeros)?;
@@ -50,8 +51,10 @@ fn clear_rest<D: Device>(
     requires header { header ≡ min room 10 }
     requires room { end + room ≡ length (D.seen device.old) }
     requires fits { end + room < 2 ^ 64 }
-    ensures settled { OnOk result (IsSettled (D.seen device.new) (D.may_leave device.new) (recorded (D.seen device.old)) end) }
-    ensures any_moment { LeavesOnly D.moment D.left_since device.old device.new (λ c. recorded c ≡ recorded (D.seen device.old)) }
+    ensures settled { OnOk result (IsSettled (D.seen device.new) (D.may_leave device.new)
+        (recorded (D.seen device.old)) end) }
+    ensures any_moment { LeavesOnly D.moment D.left_since device.old device.new (λ c. recorded c ≡
+        recorded (D.seen device.old)) }
     ensures cause { HasCause (D.failure_count device.old) (D.failure_count device.new) result }
 {
     let mut done = header;
@@ -64,8 +67,9 @@ fn clear_rest<D: Device>(
     Ok(())
 }
 
-/// Clears all behind the strings of a device of this size: first the place of a header, so that no torn write of the rest can make
-/// a frame there, then the rest. A crash at any moment of the call leaves the same strings. Out of memory, nothing is written.
+/// Clears all behind the strings of a device of this size: first the place of a header, so that no torn write of the
+/// rest can make a frame there, then the rest. A crash at any moment of the call leaves the same strings. Out of
+/// memory, nothing is written.
 pub fn clear<D: Device>(
     alloc: Global,
     device: &mut D,
@@ -75,11 +79,14 @@ pub fn clear<D: Device>(
     requires read { IsRead (recorded (D.seen device.old)) end (D.seen device.old) }
     requires durable { Only (D.seen device.old) (D.may_leave device.old) }
     requires size { size ≡ length (D.seen device.old) }
-    ensures settled { OnOk result (IsSettled (D.seen device.new) (D.may_leave device.new) (recorded (D.seen device.old)) end) }
-    ensures any_moment { LeavesOnly D.moment D.left_since device.old device.new (λ c. recorded c ≡ recorded (D.seen device.old)) }
+    ensures settled { OnOk result (IsSettled (D.seen device.new) (D.may_leave device.new)
+        (recorded (D.seen device.old)) end) }
+    ensures any_moment { LeavesOnly D.moment D.left_since device.old device.new (λ c. recorded c ≡
+        recorded (D.seen device.old)) }
     ensures no_memory { IsErrOf result JournalError.NoMemory → device.new ≡ device.old }
     ensures later { D.failure_count device.old ≤ D.failure_count device.new }
-    ensures failed { IsErrOf result JournalError.DeviceFailed → HasRisen (D.failure_count device.old) (D.failure_count device.new) }
+    ensures failed { IsErrOf result JournalError.DeviceFailed → HasRisen (D.failure_count device.old)
+        (D.failure_count device.new) }
 {
     let room = size - end;
     let header = room.min(HEADER as u64);

@@ -85,7 +85,8 @@ pub fn write(first: u8, content: &[u8], out: &mut Vec<u8>) -> Result<(), WriteEr
 pub fn shortest()
     ensures { (first : ℕ) (content : List ℕ) → first % 32 < 31 → length content < 2 ^ 32
         → IsElement (element_bytes first content) first content
-        × ((other : List ℕ) → IsElement other first content → (other ≡ element_bytes first content) ⊎ (length (element_bytes first content) < length other)) }
+        × ((other : List ℕ) → IsElement other first content → (other ≡ element_bytes first content)
+        ⊎ (length (element_bytes first content) < length other)) }
 {}
 
 /// How many octets an integer takes whose bits after the sign are these.

@@ -38,7 +38,8 @@ pub fn put_optional_text(
     out: &mut Vec<u8>,
 ) -> Result<(), WriteError>
     requires { first % 32 < 31 }
-    ensures ok { OnOk result (out.new.items ≡ out.old.items ++ optional_bytes first (option_map string_bytes text.now)) }
+    ensures ok { OnOk result (out.new.items ≡ out.old.items ++ optional_bytes first
+        (option_map string_bytes text.now)) }
     ensures too_long { IsErrOf result WriteError.TooLong
         → 2 ^ 32 ≤ length (optional_bytes first (option_map string_bytes text.now)) }
     ensures err { OnErr result (out.new.items ≡ out.old.items) }

@@ -41,8 +41,8 @@ impl Model for Name {
 }
 
 impl Name {
-    /// The name of a text (RFC 4514 3). A text of another form is refused as E17, and so is one whose types or values are not
-    /// the schema's.
+    /// The name of a text (RFC 4514 3). A text of another form is refused as E17, and so is one whose types or values
+    /// are not the schema's.
     pub fn read(alloc: Global, schema: &Schema, text: &str) -> Result<Name, NameError>
         ensures found { IfOk result (λ n. name_of_text schema.now text.now ≡ Some n) }
 
@@ -78,8 +78,8 @@ impl Name {
         })
     }
 
-    /// The one printed form (RFC 4514 2): types by first name, the values as they were written, and nothing escaped that need not
-    /// be. Its only error is want of memory.
+    /// The one printed form (RFC 4514 2): types by first name, the values as they were written, and nothing escaped
+    /// that need not be. Its only error is want of memory.
     pub fn print(&self, alloc: Global, schema: &Schema) -> Result<String, AllocError>
         ensures { IfOk result (λ t. string_bytes t ≡ printed_name schema.now self.now) }
     {
@@ -141,7 +141,8 @@ impl Name {
     }
 }
 
-/// The name that `Name::read` finds is the one whose text it is by the grammar, and where it finds none the text is no name's.
+/// The name that `Name::read` finds is the one whose text it is by the grammar, and where it finds none the text is no
+/// name's.
 pub fn names_are_of_texts()
     ensures { NamesAreOfTexts }
 {}

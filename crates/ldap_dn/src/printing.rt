@@ -27,7 +27,8 @@ fn is_escaped(is_first: bool, is_last: bool, c: char) -> bool
 /// Puts a character, behind a backslash where it is escaped.
 fn put_character(out: &mut String, escaped: bool, c: char) -> Result<(), AllocError>
     ensures ok { OnOk result (string_bytes out.new ≡ string_bytes out.old ++ printed.printed_character escaped c) }
-    ensures kept { string_bytes out.new ≡ string_bytes out.old ++ drop (length (string_bytes out.old)) (string_bytes out.new) }
+    ensures kept { string_bytes out.new ≡ string_bytes out.old ++ drop (length (string_bytes out.old))
+        (string_bytes out.new) }
 {
     if c == '\0' {
         return out.push_str("\\00");
@@ -41,7 +42,8 @@ fn put_character(out: &mut String, escaped: bool, c: char) -> Result<(), AllocEr
 /// Puts the characters of a value.
 fn put_characters(out: &mut String, characters: &[char]) -> Result<(), AllocError>
     ensures ok { OnOk result (string_bytes out.new ≡ string_bytes out.old ++ printed.printed_from true characters.now) }
-    ensures kept { string_bytes out.new ≡ string_bytes out.old ++ drop (length (string_bytes out.old)) (string_bytes out.new) }
+    ensures kept { string_bytes out.new ≡ string_bytes out.old ++ drop (length (string_bytes out.old))
+        (string_bytes out.new) }
 {
     let mut is_first = true;
     let mut left = characters.len();
@@ -98,7 +100,8 @@ fn is_printed_as_is(value: &str) -> bool
 /// Puts a value: at once, where it is printed as it is.
 fn put_value(alloc: Global, out: &mut String, value: &str) -> Result<(), AllocError>
     ensures ok { OnOk result (string_bytes out.new ≡ string_bytes out.old ++ printed.printed_value value.now) }
-    ensures kept { string_bytes out.new ≡ string_bytes out.old ++ drop (length (string_bytes out.old)) (string_bytes out.new) }
+    ensures kept { string_bytes out.new ≡ string_bytes out.old ++ drop (length (string_bytes out.old))
+        (string_bytes out.new) }
 {
     if is_printed_as_is(value) {
         return out.push_str(value);
@@ -134,8 +137,10 @@ fn put_type_and_value(
     schema: &Schema,
     one: &TypeAndValue,
 ) -> Result<(), AllocError>
-    ensures ok { OnOk result (string_bytes out.new ≡ string_bytes out.old ++ printed.printed_type_and_value schema.now one.now) }
-    ensures kept { string_bytes out.new ≡ string_bytes out.old ++ drop (length (string_bytes out.old)) (string_bytes out.new) }
+    ensures ok { OnOk result (string_bytes out.new ≡ string_bytes out.old ++ printed.printed_type_and_value schema.now
+        one.now) }
+    ensures kept { string_bytes out.new ≡ string_bytes out.old ++ drop (length (string_bytes out.old))
+        (string_bytes out.new) }
 {
     out.push_str(type_name(schema, one.type_id))?;
     out.push('=')?;
@@ -149,8 +154,10 @@ fn put_more(
     schema: &Schema,
     list: &[TypeAndValue],
 ) -> Result<(), AllocError>
-    ensures ok { OnOk result (string_bytes out.new ≡ string_bytes out.old ++ flat_map (λ y. 43 ∷ y) (map (printed.printed_type_and_value schema.now) list.now)) }
-    ensures kept { string_bytes out.new ≡ string_bytes out.old ++ drop (length (string_bytes out.old)) (string_bytes out.new) }
+    ensures ok { OnOk result (string_bytes out.new ≡ string_bytes out.old ++ flat_map (λ y. 43 ∷ y)
+        (map (printed.printed_type_and_value schema.now) list.now)) }
+    ensures kept { string_bytes out.new ≡ string_bytes out.old ++ drop (length (string_bytes out.old))
+        (string_bytes out.new) }
 {
     for one in list {
         out.push('+')?;
@@ -167,7 +174,8 @@ fn put_rdn(
     list: &[TypeAndValue],
 ) -> Result<(), AllocError>
     ensures ok { OnOk result (string_bytes out.new ≡ string_bytes out.old ++ printed.printed_rdn schema.now list.now) }
-    ensures kept { string_bytes out.new ≡ string_bytes out.old ++ drop (length (string_bytes out.old)) (string_bytes out.new) }
+    ensures kept { string_bytes out.new ≡ string_bytes out.old ++ drop (length (string_bytes out.old))
+        (string_bytes out.new) }
 {
     match list.split_first() {
         Some((first, more)) => {
@@ -185,8 +193,10 @@ fn put_more_rdns(
     schema: &Schema,
     rdns: &[&Rdn],
 ) -> Result<(), AllocError>
-    ensures ok { OnOk result (string_bytes out.new ≡ string_bytes out.old ++ flat_map (λ y. 44 ∷ y) (map (λ r. printed.printed_rdn schema.now r.spelling) (map (λ r. r.now) rdns.now))) }
-    ensures kept { string_bytes out.new ≡ string_bytes out.old ++ drop (length (string_bytes out.old)) (string_bytes out.new) }
+    ensures ok { OnOk result (string_bytes out.new ≡ string_bytes out.old ++ flat_map (λ y. 44 ∷ y)
+        (map (λ r. printed.printed_rdn schema.now r.spelling) (map (λ r. r.now) rdns.now))) }
+    ensures kept { string_bytes out.new ≡ string_bytes out.old ++ drop (length (string_bytes out.old))
+        (string_bytes out.new) }
 {
     for rdn in rdns {
         out.push(',')?;
@@ -202,8 +212,10 @@ fn put_rdns(
     schema: &Schema,
     rdns: &[&Rdn],
 ) -> Result<(), AllocError>
-    ensures ok { OnOk result (string_bytes out.new ≡ string_bytes out.old ++ printed.separated 44 (map (λ r. printed.printed_rdn schema.now r.spelling) (map (λ r. r.now) rdns.now))) }
-    ensures kept { string_bytes out.new ≡ string_bytes out.old ++ drop (length (string_bytes out.old)) (string_bytes out.new) }
+    ensures ok { OnOk result (string_bytes out.new ≡ string_bytes out.old ++ printed.separated 44
+        (map (λ r. printed.printed_rdn schema.now r.spelling) (map (λ r. r.now) rdns.now))) }
+    ensures kept { string_bytes out.new ≡ string_bytes out.old ++ drop (length (string_bytes out.old))
+        (string_bytes out.new) }
 {
     match rdns.split_first() {
         Some((first, more)) => {
@@ -246,14 +258,16 @@ fn text_for(alloc: Global, schema: &Schema, rdns: &[&Rdn]) -> Result<String, All
 
 /// The printed form of relative names that are given the last one first, as they are printed. It copies none of them.
 pub fn print_from_leaf(alloc: Global, schema: &Schema, rdns: &[&Rdn]) -> Result<String, AllocError>
-    ensures { IfOk result (λ t. string_bytes t ≡ printed.printed_name schema.now (reverse (map (λ r. r.now) rdns.now))) }
+    ensures { IfOk result (λ t. string_bytes t ≡ printed.printed_name schema.now
+        (reverse (map (λ r. r.now) rdns.now))) }
 {
     let mut out = text_for(alloc, schema, rdns)?;
     put_rdns(alloc, &mut out, schema, rdns)?;
     Ok(out)
 }
 
-/// The printed form of relative names that are given the last one first, each behind a `,`: so they stand behind each name right below them.
+/// The printed form of relative names that are given the last one first, each behind a `,`: so they stand behind each
+/// name right below them.
 pub fn print_behind(alloc: Global, schema: &Schema, rdns: &[&Rdn]) -> Result<String, AllocError>
     ensures { IfOk result (λ t. string_bytes t ≡ printed.printed_behind schema.now (map (λ r. r.now) rdns.now)) }
 {

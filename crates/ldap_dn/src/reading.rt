@@ -142,7 +142,8 @@ fn written_in(
     pieces: &[&[Token]],
 ) -> Result<Vec<TypeAndValue>, NameError>
     ensures found { IfOk result (λ v. texts.written_from schema.now [] (map (λ x. x.now) pieces.now) ≡ Some v.items) }
-    ensures refused { IsErrOf result NameError.BadName → texts.written_from schema.now [] (map (λ x. x.now) pieces.now) ≡ None }
+    ensures refused { IsErrOf result NameError.BadName → texts.written_from schema.now []
+        (map (λ x. x.now) pieces.now) ≡ None }
 {
     let mut list = Vec::with_capacity(alloc, pieces.len())?;
     for piece in pieces {
@@ -275,7 +276,8 @@ fn rdn(alloc: Global, schema: &Schema, tokens: &[Token]) -> Result<Rdn, NameErro
 /// The relative names that the pieces spell, in their order.
 fn rdns_in(alloc: Global, schema: &Schema, pieces: &[&[Token]]) -> Result<Vec<Rdn>, NameError>
     ensures found { IfOk result (λ v. texts.rdns_from schema.now [] (map (λ x. x.now) pieces.now) ≡ Some v.items) }
-    ensures refused { IsErrOf result NameError.BadName → texts.rdns_from schema.now [] (map (λ x. x.now) pieces.now) ≡ None }
+    ensures refused { IsErrOf result NameError.BadName → texts.rdns_from schema.now [] (map (λ x. x.now) pieces.now) ≡
+        None }
 {
     let mut list = Vec::with_capacity(alloc, pieces.len())?;
     for piece in pieces {

@@ -1,7 +1,7 @@
 //! What items of several fields say.
 
-/// SubstringFilter (RFC 4511 4.5.1.7.2): a value of the described attribute has these parts in order. What is read has a part
-/// at least.
+/// SubstringFilter (RFC 4511 4.5.1.7.2): a value of the described attribute has these parts in order. What is read has
+/// a part at least.
 #[derive(Clone, Debug, PartialEq, Eq)]
 pub struct SubstringFilter {
     pub description: String,

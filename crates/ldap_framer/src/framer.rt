@@ -18,13 +18,15 @@ use ldap_msg::{Message, MsgFault};
 use std::alloc::Global;
 use std::collections::VecDeque;
 
-/// How many octets of room a buffer may keep that it doesn't use: two reads of a socket; and where the stream pauses, as many as nobody counts.
+/// How many octets of room a buffer may keep that it doesn't use: two reads of a socket; and where the stream pauses,
+/// as many as nobody counts.
 const ROOM: usize = 16_384;
 
 const SPARE: usize = 4_096;
 
-/// Gives back the room of a buffer, where that is at least this and three times what the buffer holds: what it holds is copied to a
-/// buffer of its own size. Where there is no memory for that, the room stays. The copy costs less than the octets that have gone.
+/// Gives back the room of a buffer, where that is at least this and three times what the buffer holds: what it holds is
+/// copied to a buffer of its own size. Where there is no memory for that, the room stays. The copy costs less than the
+/// octets that have gone.
 fn give_back(alloc: Global, buffer: &mut BytesMut, room: usize)
     ensures { buffer.new.items ≡ buffer.old.items }
 {
@@ -38,8 +40,8 @@ fn give_back(alloc: Global, buffer: &mut BytesMut, room: usize)
     }
 }
 
-/// Cuts a stream into messages. A piece costs what its octets and its whole messages cost: what is
-/// left of a message is kept where it lies, and looked at again in its first six octets alone. Room grows by what came, never by what a
+/// Cuts a stream into messages. A piece costs what its octets and its whole messages cost: what is left of a message is
+/// kept where it lies, and looked at again in its first six octets alone. Room grows by what came, never by what a
 /// header says will come; behind a large message it is given back.
 pub struct Framer {
     alloc: Global,
@@ -84,7 +86,8 @@ impl Framer {
         ensures awaits { OnOk result ((framed self.new).fault ≡ None) }
         // Which fault it is, and what it leaves.
         ensures fault { IfErr result (λ e. IsFeedFault e (framed self.old) piece.now (framed self.new)) }
-        // However the stream was cut: with those that wait, the messages handed out are those of the whole stream so far.
+        // However the stream was cut: with those that wait, the messages handed out are those of the whole stream so
+        // far.
         ensures stream { (stream : List ℕ) (handed : List MessageValue)
             → HasSeen (framed self.old) stream handed
             → OnOk result (HasSeen (framed self.new) (stream ++ piece.now) handed) }
@@ -146,8 +149,8 @@ impl Framer {
         self.ready.pop_front()
     }
 
-    /// Gives back memory that was kept for octets and for messages: all of it where none are held, and for octets what is much more than those
-    /// that are held need. A stream that pauses between two messages keeps nothing then.
+    /// Gives back memory that was kept for octets and for messages: all of it where none are held, and for octets what
+    /// is much more than those that are held need. A stream that pauses between two messages keeps nothing then.
     pub fn rest(&mut self)
         ensures kept { framed self.new ≡ framed self.old }
         ensures none { (framed self.old).rest ≡ [] → room_of self.new ≡ 0 }
@@ -184,11 +187,12 @@ impl Framer {
         self.buffer.capacity()
     }
 
-    /// How many octets of memory those messages take, at most, that become whole by so many further octets: at least the octets of them all; 0,
-    /// where the message that is begun states more.
+    /// How many octets of memory those messages take, at most, that become whole by so many further octets: at least
+    /// the octets of them all; 0, where the message that is begun states more.
     pub fn weight_of(&self, count: usize) -> usize
         ensures begun { StatesMore (framed self.now).rest count → result ≡ 0 }
-        ensures whole { (StatesMore (framed self.now).rest count → ⊥) → min (length (framed self.now).rest + count) 18446744073709551615 ≤ result }
+        ensures whole { (StatesMore (framed self.now).rest count → ⊥) → min (length (framed self.now).rest + count)
+            18446744073709551615 ≤ result }
     {
         weight(self.buffer.as_slice(), count)
     }

@@ -1,4 +1,5 @@
-//! Estimates from above what octets take in memory once they are messages: by their number, and of large ones by their elements.
+//! Estimates from above what octets take in memory once they are messages: by their number, and of large ones by their
+//! elements.
 ghost use Rattle.std.specs.Prelude.{◌≡◌, ◌<◌, ◌≤◌, ◌+◌, min, length, IfSome};
 ghost use Rattle.std.specs.Bool.{OnTrue, OnFalse};
 ghost use Rattle.ldap_framer.specs.Weighing.{StatesMore};
@@ -8,10 +9,12 @@ use ldap_msg::header;
 /// What is inside of an element with this bit is elements (X.690 8.1.2.5).
 const CONSTRUCTED: u8 = 0x20;
 
-/// What an element takes at most: a value of a message (24 octets), its place in a list that has doubled (24), and a block of memory (32).
+/// What an element takes at most: a value of a message (24 octets), its place in a list that has doubled (24), and a
+/// block of memory (32).
 const ELEMENT: usize = 80;
 
-/// Of so few octets the elements aren't counted: each octet stands for this many then, since an element has two or three of its own.
+/// Of so few octets the elements aren't counted: each octet stands for this many then, since an element has two or
+/// three of its own.
 const SMALL: usize = 16_384;
 
 const EACH: usize = 28;
@@ -30,8 +33,8 @@ fn states_more(octets: &[u8], count: usize) -> bool
     }
 }
 
-/// How many octets stand before the next element: the first one's, or those of its header where elements are inside of it. None, where no whole
-/// header is there.
+/// How many octets stand before the next element: the first one's, or those of its header where elements are inside of
+/// it. None, where no whole header is there.
 fn step(octets: &[u8]) -> Option<usize>
     ensures on { IfSome result (λ n. 0 < n) }
     ensures some { IfSome result (λ _. 0 < length octets.now) }
@@ -65,7 +68,8 @@ fn elements(octets: &[u8]) -> usize
     count
 }
 
-/// How many octets of memory those messages take, at most, that these octets become with so many further ones; 0, where they state more.
+/// How many octets of memory those messages take, at most, that these octets become with so many further ones; 0, where
+/// they state more.
 pub fn weight(octets: &[u8], count: usize) -> usize
     ensures begun { StatesMore octets.now count → result ≡ 0 }
     ensures whole { (StatesMore octets.now count → ⊥) → min (length octets.now + count) 18446744073709551615 ≤ result }

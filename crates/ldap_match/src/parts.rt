@@ -39,8 +39,8 @@ impl Model for PartKeys {
 }
 
 impl PartKeys {
-    /// Whether the key has the parts: the initial one at its start, the last one at its end, and the others between them in
-    /// order, none over another. Takes no memory.
+    /// Whether the key has the parts: the initial one at its start, the last one at its end, and the others between
+    /// them in order, none over another. Takes no memory.
     pub fn stand_in(&self, key: &Key) -> bool
         ensures { result ≡ has_parts self.now key.now }
     {

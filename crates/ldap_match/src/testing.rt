@@ -148,8 +148,8 @@ pub fn substrings_test(
     }
 }
 
-/// Whether a substrings item on the type can be answered: the type has a SUBSTR rule, and each part is a part of a value of its
-/// syntax.
+/// Whether a substrings item on the type can be answered: the type has a SUBSTR rule, and each part is a part of a
+/// value of its syntax.
 pub fn has_parts_of(
     alloc: Global,
     schema: &Schema,

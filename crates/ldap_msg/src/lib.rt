@@ -1,11 +1,12 @@
 //! Reads and writes whole LDAP messages.
 //!
-//! The envelope and the choice of operations: whole messages. The first octet says which operation it is; no proof compares the operations
-//! two by two. To add an operation, put its content into `ldap_requests` or `ldap_parts`. Then add a case here to the
-//! value (`Messages`), the view, the grammar (`request_octet`, `IsRequestContent`), the written form and the lists of `proofs/Choices`.
+//! The envelope and the choice of operations: whole messages. The first octet says which operation it is; no proof
+//! compares the operations two by two. To add an operation, put its content into `ldap_requests` or `ldap_parts`. Then
+//! add a case here to the value (`Messages`), the view, the grammar (`request_octet`, `IsRequestContent`), the written
+//! form and the lists of `proofs/Choices`.
 //!
-//! Proved: whole messages are read exactly and written in their one form (`decode`, `encode`, `put_search_entry`, `one_message`,
-//! `is_message`).
+//! Proved: whole messages are read exactly and written in their one form (`decode`, `encode`, `put_search_entry`,
+//! `one_message`, `is_message`).
 #![tactic(auto)]
 
 mod decoding;

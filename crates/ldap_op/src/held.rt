@@ -122,7 +122,8 @@ impl Unspelled {
 pub enum Held {
     /// As its octets.
     Written(Spelled),
-    /// As itself, since no octets are read as it: an attribute of an add has no value, or it is too long for any message.
+    /// As itself, since no octets are read as it: an attribute of an add has no value, or it is too long for any
+    /// message.
     Loose(Unspelled),
 }
 

@@ -1,10 +1,11 @@
 //! Reads, writes and copies an update by itself, as a log keeps it.
 //!
-//! `Op` is a value whose equality is that of its content; a copy shares its memory. It keeps the octets of the operation, which are read when
-//! the update is looked at, and copied as they are when it is sent.
+//! `Op` is a value whose equality is that of its content; a copy shares its memory. It keeps the octets of the
+//! operation, which are read when the update is looked at, and copied as they are when it is sent.
 //!
-//! Proved: an update is read exactly where there is one and written in its one form (`read_op`, `write_op`, `one_op`, `is_op`). What is looked
-//! at is the update (`Op::look`), and its octets are those (`Op::octets`). A copy is equal (`Op::copy`).
+//! Proved: an update is read exactly where there is one and written in its one form (`read_op`, `write_op`, `one_op`,
+//! `is_op`). What is looked at is the update (`Op::look`), and its octets are those (`Op::octets`). A copy is equal
+//! (`Op::copy`).
 #![tactic(auto)]
 
 mod held;

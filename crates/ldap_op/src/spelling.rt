@@ -22,8 +22,10 @@ const MOST: usize = 0x1_0000_0000;
 
 /// Whether each of these attributes has a value.
 fn have_values(attributes: &[PartialAttribute]) -> bool
-    ensures in_range { IsTrue result → AllByRecursion (λ x. IsUtf8 x.description × HasAValue x) (map attribute_view attributes.now) }
-    ensures lacks { IsFalse result → AllByRecursion (λ x. IsUtf8 x.description × HasAValue x) (map attribute_view attributes.now) → ⊥ }
+    ensures in_range { IsTrue result → AllByRecursion (λ x. IsUtf8 x.description × HasAValue x)
+        (map attribute_view attributes.now) }
+    ensures lacks { IsFalse result → AllByRecursion (λ x. IsUtf8 x.description × HasAValue x)
+        (map attribute_view attributes.now) → ⊥ }
 {
     for attribute in attributes {
         let _ = attribute.description.as_str();
@@ -94,9 +96,11 @@ fn is_in_range(update: &Update) -> bool
     }
 }
 
-/// The octets of an update, in a buffer of their length; none, where no octets are read as it. The only error is want of memory.
+/// The octets of an update, in a buffer of their length; none, where no octets are read as it. The only error is want
+/// of memory.
 pub fn spell(alloc: Global, update: &Update) -> Result<Option<Vec<u8>>, AllocError>
-    ensures spelled { IfOk result (λ spelled. IfSome spelled (λ octets. IsSpelled (update_view update.now) octets.items)) }
+    ensures spelled { IfOk result (λ spelled. IfSome spelled (λ octets. IsSpelled (update_view update.now)
+        octets.items)) }
     ensures none { IfOk result (λ spelled. IsNone spelled → HasNoSpelling (update_view update.now)) }
 {
     is_op();

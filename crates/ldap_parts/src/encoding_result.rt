@@ -13,7 +13,8 @@ use std::alloc::Global;
 
 /// Writes URIs, or nothing where there are none.
 fn put_referral(alloc: Global, referral: &[String], out: &mut Vec<u8>) -> Result<(), WriteError>
-    ensures ok { OnOk result (out.new.items ≡ out.old.items ++ row_or_none_bytes (element_bytes 4) 163 (map string_bytes referral.now)) }
+    ensures ok { OnOk result (out.new.items ≡ out.old.items ++ row_or_none_bytes (element_bytes 4) 163
+        (map string_bytes referral.now)) }
     ensures too_long { IsErrOf result WriteError.TooLong
         → 2 ^ 32 ≤ length (row_or_none_bytes (element_bytes 4) 163
         (map string_bytes referral.now)) }

@@ -1,18 +1,18 @@
 //! Reads and writes what requests, updates and results are made of: results, attributes and controls.
 //!
-//! Beside them the operations that change the directory (add, delete, modify and modifyDN) and the responses that are no
-//! plain results (an entry that a search found, and extended).
+//! Beside them the operations that change the directory (add, delete, modify and modifyDN) and the responses that are
+//! no plain results (an entry that a search found, and extended).
 //!
-//! Each part has its type with the RFC's field names, its value, its grammar and its written form; a reader and a writer
-//! of its content, and a lemma for each exit of the reader. `ldap_requests` is made the same way. Attributes are written
-//! from whoever keeps a description and its values (`AttributeParts`).
+//! Each part has its type with the RFC's field names, its value, its grammar and its written form; a reader and a
+//! writer of its content, and a lemma for each exit of the reader. `ldap_requests` is made the same way. Attributes are
+//! written from whoever keeps a description and its values (`AttributeParts`).
 //!
-//! Proved: results, attributes and controls are read exactly and written in their one form (`result_of`, `attribute_of`,
-//! `controls_of`, `result_content`, `attribute_content`, `put_attribute_list`, `put_controls`), and how long attributes
-//! are (`attributes_length`). The content of each update is (`add_of`, `delete_of`, `modify_of`, `modify_dn_of`, and
-//! `add_content`, ..), and that of each response (`entry_of`, `extended_of`, `put_entry`, `entry_content`,
-//! `extended_content`); `entry_length` says how long an entry is before it is written. Its name and its attributes may
-//! be anybody's.
+//! Proved: results, attributes and controls are read exactly and written in their one form (`result_of`,
+//! `attribute_of`, `controls_of`, `result_content`, `attribute_content`, `put_attribute_list`, `put_controls`), and how
+//! long attributes are (`attributes_length`). The content of each update is (`add_of`, `delete_of`, `modify_of`,
+//! `modify_dn_of`, and `add_content`, ..), and that of each response (`entry_of`, `extended_of`, `put_entry`,
+//! `entry_content`, `extended_content`); `entry_length` says how long an entry is before it is written. Its name and
+//! its attributes may be anybody's.
 #![tactic(auto)]
 
 mod add;

@@ -63,7 +63,8 @@ fn put_attributes(
     request: &SearchRequest,
     out: &mut Vec<u8>,
 ) -> Result<(), WriteError>
-    ensures ok { OnOk result (out.new.items ≡ out.old.items ++ element_bytes 48 (row_bytes (element_bytes 4) (search_view request.now).attributes)) }
+    ensures ok { OnOk result (out.new.items ≡ out.old.items ++ element_bytes 48
+        (row_bytes (element_bytes 4) (search_view request.now).attributes)) }
     ensures too_long { IsErrOf result WriteError.TooLong
         → 2 ^ 32 ≤ length (element_bytes 48 (row_bytes (element_bytes 4) (search_view request.now).attributes)) }
 {

@@ -2,8 +2,8 @@
 //!
 //! Bind, unbind, search, compare, abandon and extended; made as `ldap_parts` says.
 //!
-//! Proved: the content of each is read exactly and written in its one form (`bind_of`, `search_of`, `compare_of`, `extended_request_of`,
-//! `abandon_of`, `unbind_of`, and `bind_content`, ..).
+//! Proved: the content of each is read exactly and written in its one form (`bind_of`, `search_of`, `compare_of`,
+//! `extended_request_of`, `abandon_of`, `unbind_of`, and `bind_content`, ..).
 #![tactic(auto)]
 
 mod bind;

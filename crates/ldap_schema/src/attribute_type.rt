@@ -81,7 +81,17 @@ impl Model for AttributeType {
 
     ghost Value = { TypeModel };
 
-    ghost view = { λ t. record { oid = string_bytes t.oid; names = map string_bytes t.names.items; superior = t.superior; syntax = t.syntax; equality = t.equality; ordering = t.ordering; substrings = t.substrings; is_single_value = t.is_single_value } };
+    ghost view = { λ t. record {
+      oid = string_bytes t.oid;
+      names = map string_bytes t.names.items;
+      superior =
+          t.superior;
+      syntax = t.syntax;
+      equality = t.equality;
+      ordering = t.ordering;
+      substrings = t.substrings;
+      is_single_value = t.is_single_value;
+    } };
 }
 
 impl AttributeType {

@@ -84,7 +84,15 @@ impl Model for ObjectClass {
 
     ghost Value = { ClassModel };
 
-    ghost view = { λ c. record { oid = string_bytes c.oid; names = map string_bytes c.names.items; superiors = c.superiors.items; kind = c.kind; required = c.required.items; allowed = c.allowed.items } };
+    ghost view = { λ c. record {
+      oid = string_bytes c.oid;
+      names = map string_bytes c.names.items;
+      superiors =
+          c.superiors.items;
+      kind = c.kind;
+      required = c.required.items;
+      allowed = c.allowed.items;
+    } };
 }
 
 impl ObjectClass {

@@ -45,7 +45,8 @@ fn high_ones(
         .collect(alloc)
 }
 
-/// The class, and those of its superclasses to which superclasses of at least this rank lead. Each class is looked at once.
+/// The class, and those of its superclasses to which superclasses of at least this rank lead. Each class is looked at
+/// once.
 fn gather_high(
     alloc: Global,
     classes: &[ObjectClass],
@@ -66,8 +67,9 @@ fn gather_high(
     Ok(have)
 }
 
-/// Whether the first class is the second one, or the second is a superclass of it. Direct superclasses are looked at first; the search
-/// goes up from there through classes of at least the second one's rank, since below it nothing leads there.
+/// Whether the first class is the second one, or the second is a superclass of it. Direct superclasses are looked at
+/// first; the search goes up from there through classes of at least the second one's rank, since below it nothing leads
+/// there.
 fn is_under(
     alloc: Global,
     classes: &[ObjectClass],

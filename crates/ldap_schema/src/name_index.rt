@@ -38,7 +38,8 @@ fn add_name(
     name: &[u8],
     number: usize,
 ) -> Result<(), AllocError>
-    ensures ok { OnOk result ((q : List ℕ) → number_at table.new q ≡ kept_or (number_at table.old q) (bytes_eq q (map to_ascii_lowercase name.now)) number) }
+    ensures ok { OnOk result ((q : List ℕ) → number_at table.new q ≡ kept_or (number_at table.old q)
+        (bytes_eq q (map to_ascii_lowercase name.now)) number) }
     ensures err { OnErr result (table.new ≡ table.old) }
 {
     table.add(lower_case(alloc, name)?, number)
@@ -51,7 +52,8 @@ fn add_names(
     names: &[String],
     number: usize,
 ) -> Result<(), AllocError>
-    ensures { OnOk result ((q : List ℕ) → number_at table.new q ≡ kept_or (number_at table.old q) (has_name q (map string_bytes names.now)) number) }
+    ensures { OnOk result ((q : List ℕ) → number_at table.new q ≡ kept_or (number_at table.old q)
+        (has_name q (map string_bytes names.now)) number) }
 {
     for name in names {
         add_name(alloc, table, name.as_bytes(), number)?;
@@ -91,8 +93,10 @@ impl NameIndex {
         names: &[String],
         number: usize,
     ) -> Result<(), AllocError>
-        ensures names { OnOk result ((q : List ℕ) → number_at self.new.names q ≡ kept_or (number_at self.old.names q) (has_name q (map string_bytes names.now)) number) }
-        ensures oids { OnOk result ((q : List ℕ) → number_at self.new.oids q ≡ kept_or (number_at self.old.oids q) (bytes_eq q oid.now) number) }
+        ensures names { OnOk result ((q : List ℕ) → number_at self.new.names q ≡ kept_or (number_at self.old.names q)
+            (has_name q (map string_bytes names.now)) number) }
+        ensures oids { OnOk result ((q : List ℕ) → number_at self.new.oids q ≡ kept_or (number_at self.old.oids q)
+            (bytes_eq q oid.now) number) }
     {
         add_names(alloc, &mut self.names, names, number)?;
         self.oids
@@ -101,7 +105,8 @@ impl NameIndex {
 
     /// The index of types.
     pub fn of_types(alloc: Global, types: &[AttributeType]) -> Result<NameIndex, AllocError>
-        ensures { IfOk result (λ i. (d : List ℕ) → find_in i d ≡ position_from (λ t. is_called d t.oid t.names) 0 types.now) }
+        ensures { IfOk result (λ i. (d : List ℕ) → find_in i d ≡ position_from (λ t. is_called d t.oid t.names) 0
+            types.now) }
     {
         let mut index = NameIndex::new(alloc);
         for (number, one) in types.iter().enumerate() {
@@ -112,7 +117,8 @@ impl NameIndex {
 
     /// The index of classes.
     pub fn of_classes(alloc: Global, classes: &[ObjectClass]) -> Result<NameIndex, AllocError>
-        ensures { IfOk result (λ i. (d : List ℕ) → find_in i d ≡ position_from (λ c. is_called d c.oid c.names) 0 classes.now) }
+        ensures { IfOk result (λ i. (d : List ℕ) → find_in i d ≡ position_from (λ c. is_called d c.oid c.names) 0
+            classes.now) }
     {
         let mut index = NameIndex::new(alloc);
         for (number, one) in classes.iter().enumerate() {

@@ -104,7 +104,8 @@ impl NameTable {
 
     /// Adds a name, unless it is there.
     pub fn add(&mut self, name: Vec<u8>, number: usize) -> Result<(), AllocError>
-        ensures ok { OnOk result ((q : List ℕ) → number_at self.new q ≡ kept_or (number_at self.old q) (bytes_eq q name.items) number) }
+        ensures ok { OnOk result ((q : List ℕ) → number_at self.new q ≡ kept_or (number_at self.old q)
+            (bytes_eq q name.items) number) }
         ensures err { OnErr result (self.new ≡ self.old) }
     {
         let octets = name.as_slice();

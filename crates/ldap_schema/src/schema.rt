@@ -26,7 +26,8 @@ pub struct Schema {
     classes: Vec<ObjectClass>,
     /// Of each class a rank.
     ranks: Vec<usize>,
-    /// Whether each class has a greater rank than its superclasses: always, but where superclasses lead back to where they began.
+    /// Whether each class has a greater rank than its superclasses: always, but where superclasses lead back to where
+    /// they began.
     is_ranked: bool,
     /// The type objectClass.
     object_class: TypeId,
@@ -64,8 +65,9 @@ impl Model for Schema {
 }
 
 impl Schema {
-    /// The schema of these types and classes, numbered as they stand: no SUP of a type leads back to it, the superclasses are classes
-    /// of the list, and one of the types is objectClass (RFC 4512 3.3, 4.1). Its only error is want of memory.
+    /// The schema of these types and classes, numbered as they stand: no SUP of a type leads back to it, the
+    /// superclasses are classes of the list, and one of the types is objectClass (RFC 4512 3.3, 4.1). Its only error is
+    /// want of memory.
     pub fn of_parts(
         alloc: Global,
         types: Vec<AttributeType>,
@@ -74,7 +76,8 @@ impl Schema {
     ) -> Result<Schema, AllocError>
         requires loopless { IsLoopless types.items }
         requires known { AreSuperclassesKnown classes.items }
-        requires object_class { IsObjectClassType (record { types = types.items; classes = classes.items }) object_class }
+        requires object_class { IsObjectClassType (record { types = types.items; classes = classes.items })
+            object_class }
         ensures { IfOk result (λ s. s ≡ record { types = types.items; classes = classes.items }) }
     {
         let ranks = ranks_of(alloc, classes.as_slice())?;
@@ -99,8 +102,9 @@ impl Schema {
         self.object_class
     }
 
-    /// The superclasses that are missing among the classes (RFC 4512 2.4): for each class in turn, missing ones included, its
-    /// direct superclasses in the order written. Each class is looked at once; its only error is want of memory.
+    /// The superclasses that are missing among the classes (RFC 4512 2.4): for each class in turn, missing ones
+    /// included, its direct superclasses in the order written. Each class is looked at once; its only error is want of
+    /// memory.
     pub fn missing_superclasses(
         &self,
         alloc: Global,
@@ -112,8 +116,8 @@ impl Schema {
         all.iter().skip(classes.len()).copied().collect(alloc)
     }
 
-    /// Whether of each two of the classes one is the other or a superclass of it (RFC 4512 2.4.2). It takes as many steps as the classes have
-    /// superclasses between them, once sorted. Its only error is want of memory.
+    /// Whether of each two of the classes one is the other or a superclass of it (RFC 4512 2.4.2). It takes as many
+    /// steps as the classes have superclasses between them, once sorted. Its only error is want of memory.
     pub fn are_in_line(&self, alloc: Global, classes: &[ClassId]) -> Result<bool, AllocError>
         ensures { IfOk result (λ b. b ≡ are_all_in_line (is_class_under self.now) classes.now) }
     {
@@ -128,8 +132,8 @@ impl Schema {
         is_each_in_line(alloc, self.classes.as_slice(), classes)
     }
 
-    /// The first of the classes that all of them are, or are superclasses of (RFC 4512 2.4.2); none, where there is none. Its only error is want
-    /// of memory.
+    /// The first of the classes that all of them are, or are superclasses of (RFC 4512 2.4.2); none, where there is
+    /// none. Its only error is want of memory.
     pub fn lowest(&self, alloc: Global, classes: &[ClassId]) -> Result<Option<ClassId>, AllocError>
         ensures { IfOk result (λ c. c ≡ lowest_in (is_class_under self.now) classes.now classes.now) }
     {
@@ -144,7 +148,8 @@ impl Schema {
         lowest_among(alloc, self.classes.as_slice(), classes, classes)
     }
 
-    /// Of any two classes: the first is under the second exactly where a chain of superclasses leads there (RFC 4512 2.4). It does nothing.
+    /// Of any two classes: the first is under the second exactly where a chain of superclasses leads there (RFC 4512
+    /// 2.4). It does nothing.
     pub fn subclass_law(&self)
         ensures { (a b : ℕ) → IsTrue (is_class_under self.now a b) ↔ IsSubclass self.now a b }
     {

@@ -45,7 +45,8 @@ pub fn gather(
     Ok(have)
 }
 
-/// The classes, and at the end their superclasses that are missing, in as many steps as there are such classes and superclasses of them.
+/// The classes, and at the end their superclasses that are missing, in as many steps as there are such classes and
+/// superclasses of them.
 pub fn with_superclasses(
     alloc: Global,
     classes: &[ObjectClass],

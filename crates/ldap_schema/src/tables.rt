@@ -40,7 +40,8 @@ pub fn is_type_among(types: &[TypeId], type_id: TypeId) -> bool
     types.iter().any(|other| *other == type_id)
 }
 
-/// Whether the type's SUP leads to the other one. It goes up in as many steps as there are types at most, and takes no memory.
+/// Whether the type's SUP leads to the other one. It goes up in as many steps as there are types at most, and takes no
+/// memory.
 pub fn leads_to(types: &[AttributeType], type_id: TypeId, above: TypeId) -> bool
     ensures { result ≡ list_any (λ t. nat_eq t above) (superiors_of (length types.now) types.now type_id) }
 {

@@ -8,8 +8,8 @@ use crate::timing::is_time;
 use ldap_words::{Syntax, is_digit, is_integer, is_numericoid};
 use std::str;
 
-/// Whether the value is in the syntax (RFC 4517 3.3). Without a schema no value is a distinguished name, and only a dotted
-/// object identifier is one: the crate above judges names.
+/// Whether the value is in the syntax (RFC 4517 3.3). Without a schema no value is a distinguished name, and only a
+/// dotted object identifier is one: the crate above judges names.
 pub fn is_in_syntax(syntax: Syntax, value: &[u8]) -> bool
     ensures { result ≡ is_in_the_syntax syntax value.now }
 {
@@ -27,8 +27,8 @@ pub fn is_in_syntax(syntax: Syntax, value: &[u8]) -> bool
     }
 }
 
-/// Whether the octets may be a part of a value of the syntax in a substring assertion: not empty, and made of the syntax's
-/// characters. A syntax whose values are no text has no parts.
+/// Whether the octets may be a part of a value of the syntax in a substring assertion: not empty, and made of the
+/// syntax's characters. A syntax whose values are no text has no parts.
 pub fn is_part_of(syntax: Syntax, part: &[u8]) -> bool
     ensures { result ≡ is_part_of_syntax syntax part.now }
 {

@@ -12,8 +12,8 @@ use ldap_words::Rule;
 use std::alloc::{AllocError, Global};
 use std::marker::Model;
 
-/// What is kept of a value's texts, by which it is compared under rules of text (RFC 4517 4.2) that its type may lack: nothing, where each text is
-/// made of the value's octets alone.
+/// What is kept of a value's texts, by which it is compared under rules of text (RFC 4517 4.2) that its type may lack:
+/// nothing, where each text is made of the value's octets alone.
 pub struct Form {
     kept: Option<Box<Texts>>,
 }
@@ -34,7 +34,8 @@ impl Model for Form {
     ghost view = { λ f. option_map (λ b. b.value) f.kept };
 }
 
-/// Whether octets are those of ASCII that are seen, with single SPACEs between them and none at an edge. Takes no memory.
+/// Whether octets are those of ASCII that are seen, with single SPACEs between them and none at an edge. Takes no
+/// memory.
 fn are_seen(octets: &[u8]) -> bool
     ensures { result ≡ are_octets_seen octets.now }
 {
@@ -109,8 +110,8 @@ impl Form {
         }
     }
 
-    /// Whether the value, whose texts these are, is in the rule's syntax and meets the asserted key: it has the key, or where an order is
-    /// asked for stands before it. Takes no memory.
+    /// Whether the value, whose texts these are, is in the rule's syntax and meets the asserted key: it has the key, or
+    /// where an order is asked for stands before it. Takes no memory.
     pub fn meets(&self, rule: Rule, octets: &[u8], less: bool, asserted: &Key) -> bool
         ensures { result ≡ has_met rule less asserted.now self.now octets.now }
     {

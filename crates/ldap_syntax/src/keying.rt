@@ -14,9 +14,9 @@ use crate::timing::is_time;
 use ldap_words::{Family, Rule, has_substrings, is_integer, is_numericoid};
 use std::alloc::Global;
 
-/// The value's key under the rule: keys of one rule compare as the meanings of the values do (`keys_compare`). Time grows with
-/// the value's length alone. The key of a text takes what `prepare` takes; that of an integer two allocations, and a third where
-/// it is negative, each with its growths; any other key one.
+/// The value's key under the rule: keys of one rule compare as the meanings of the values do (`keys_compare`). Time
+/// grows with the value's length alone. The key of a text takes what `prepare` takes; that of an integer two
+/// allocations, and a third where it is negative, each with its growths; any other key one.
 pub fn key_of(alloc: Global, rule: Rule, value: &[u8]) -> Result<Key, ValueError>
     ensures key { IfOk result (λ k. key_at rule value.now ≡ Some k) }
 
@@ -40,8 +40,8 @@ pub fn key_of(alloc: Global, rule: Rule, value: &[u8]) -> Result<Key, ValueError
     }
 }
 
-/// The key of a part of a substring assertion under the rule: a key has the keys of parts exactly where the value has the
-/// parts (`parts_compare`). Time and allocations are those of `prepare`.
+/// The key of a part of a substring assertion under the rule: a key has the keys of parts exactly where the value has
+/// the parts (`parts_compare`). Time and allocations are those of `prepare`.
 pub fn part_key_of(alloc: Global, rule: Rule, part: Part, octets: &[u8]) -> Result<Key, ValueError>
     ensures key { IfOk result (λ k. part_key_at rule part octets.now ≡ Some k) }
 
@@ -90,8 +90,8 @@ pub fn has_meaning(rule: Rule, value: &[u8]) -> bool
     }
 }
 
-/// Under a rule that is used on its syntax (`is_used_on`), a value means something exactly where it is in the syntax: so
-/// `key_of` answers E11 exactly where it is not.
+/// Under a rule that is used on its syntax (`is_used_on`), a value means something exactly where it is in the syntax:
+/// so `key_of` answers E11 exactly where it is not.
 pub fn values_mean()
     ensures { ValuesOfTheSyntaxMean }
 {}

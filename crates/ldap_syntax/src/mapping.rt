@@ -17,8 +17,8 @@ pub const SPACE: char = ' ';
 /// So many characters need no memory of their own.
 const ROOM: usize = 32;
 
-/// Mapped and in form KC: the steps that every text takes. Takes an allocation where it has more than `ROOM` octets, and where it
-/// isn't ASCII, which is in that form, one more with its growths, and what puts marks in order.
+/// Mapped and in form KC: the steps that every text takes. Takes an allocation where it has more than `ROOM` octets,
+/// and where it isn't ASCII, which is in that form, one more with its growths, and what puts marks in order.
 pub fn normal(alloc: Global, text: &str) -> Result<SmallVec<char, ROOM>, AllocError>
     ensures { IfOk result (λ v. v.items ≡ normal_text (chars text.now)) }
 {
@@ -29,8 +29,8 @@ pub fn normal(alloc: Global, text: &str) -> Result<SmallVec<char, ROOM>, AllocEr
     Ok(SmallVec::from_vec(nfkc(alloc, mapped.as_slice())?))
 }
 
-/// Mapped and in form KC, then case folded by full folding, and in form KC again. Takes an allocation where it has more than
-/// `ROOM` octets, and where it isn't ASCII, three more, each with its growths, and what puts marks in order.
+/// Mapped and in form KC, then case folded by full folding, and in form KC again. Takes an allocation where it has more
+/// than `ROOM` octets, and where it isn't ASCII, three more, each with its growths, and what puts marks in order.
 pub fn folded(alloc: Global, text: &str) -> Result<SmallVec<char, ROOM>, AllocError>
     ensures { IfOk result (λ v. v.items ≡ folded_text (chars text.now)) }
 {

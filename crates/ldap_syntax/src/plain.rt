@@ -25,7 +25,8 @@ pub enum Style {
 
 /// What is left of a key behind an octet, or how a text that begins with the octet stands to the key.
 fn behind_one(one: u8, key: &[u8]) -> Result<&[u8], Ordering>
-    ensures { MatchResult result (λ more. key.now ≡ one ∷ more.now) (λ order. (xs : List ℕ) → order ≡ slice_cmp nat_cmp (one ∷ xs) key.now) }
+    ensures { MatchResult result (λ more. key.now ≡ one ∷ more.now) (λ order. (xs : List ℕ) →
+        order ≡ slice_cmp nat_cmp (one ∷ xs) key.now) }
 {
     match key.split_first() {
         Some((first, more)) => {
@@ -43,7 +44,8 @@ fn behind_one(one: u8, key: &[u8]) -> Result<&[u8], Ordering>
 
 /// The same behind two SPACEs.
 fn behind_spaces(key: &[u8]) -> Result<&[u8], Ordering>
-    ensures { MatchResult result (λ more. key.now ≡ 32 ∷ 32 ∷ more.now) (λ order. (xs : List ℕ) → order ≡ slice_cmp nat_cmp (32 ∷ 32 ∷ xs) key.now) }
+    ensures { MatchResult result (λ more. key.now ≡ 32 ∷ 32 ∷ more.now) (λ order. (xs : List ℕ) →
+        order ≡ slice_cmp nat_cmp (32 ∷ 32 ∷ xs) key.now) }
 {
     match behind_one(32, key) {
         Ok(more) => behind_one(32, more),
@@ -53,7 +55,8 @@ fn behind_spaces(key: &[u8]) -> Result<&[u8], Ordering>
 
 /// The same behind what is written of an octet.
 fn behind_written(style: Style, octet: u8, key: &[u8]) -> Result<&[u8], Ordering>
-    ensures { MatchResult result (λ more. key.now ≡ written style octet ++ more.now) (λ order. (xs : List ℕ) → order ≡ slice_cmp nat_cmp (written style octet ++ xs) key.now) }
+    ensures { MatchResult result (λ more. key.now ≡ written style octet ++ more.now) (λ order. (xs : List ℕ) →
+        order ≡ slice_cmp nat_cmp (written style octet ++ xs) key.now) }
 {
     match style {
         Style::Cased if octet == 32 => behind_spaces(key),

@@ -17,9 +17,10 @@ pub enum Part {
     Final,
 }
 
-/// The text as it is compared in the family (RFC 4518 2). Time grows with the text's length alone. Allocations, each with its
-/// growths: one, and one more for text of over 32 octets; for text beyond ASCII one more where case counts, and three where it is
-/// folded; and what puts marks in order, where the text is not in form KC. One where the text stays as it stands.
+/// The text as it is compared in the family (RFC 4518 2). Time grows with the text's length alone. Allocations, each
+/// with its growths: one, and one more for text of over 32 octets; for text beyond ASCII one more where case counts,
+/// and three where it is folded; and what puts marks in order, where the text is not in form KC. One where the text
+/// stays as it stands.
 pub fn prepare(alloc: Global, text: &str, family: Family, part: Part) -> Result<String, AllocError>
     ensures { IfOk result (λ s.
         string_bytes s ≡ encode_utf8_all (prepared family part (chars text.now))) }

@@ -61,8 +61,9 @@ fn octets_of(key: Option<&Key>) -> &[u8]
 }
 
 impl Key {
-    /// Whether the key has these parts: the initial one at its start, the last one at its end, and the others between them in
-    /// order, none over another. Takes no memory, and time that grows with the length of the key and of the parts.
+    /// Whether the key has these parts: the initial one at its start, the last one at its end, and the others between
+    /// them in order, none over another. Takes no memory, and time that grows with the length of the key and of the
+    /// parts.
     pub fn has_parts(&self, initial: Option<&Key>, any: &[Key], last: Option<&Key>) -> bool
         ensures { IsTrue result
             ↔ HasParts (option_copied initial.entry) any.now (option_copied last.entry) self.now }

@@ -8,11 +8,12 @@ use crate::mapping::SPACE;
 use crate::preparing::Part;
 use std::alloc::{AllocError, Global};
 
-/// So many octets more than a text of ASCII has characters mostly hold it with its SPACEs: one at each edge, and one more between a few words.
+/// So many octets more than a text of ASCII has characters mostly hold it with its SPACEs: one at each edge, and one
+/// more between a few words.
 const MORE: usize = 4;
 
-/// One SPACE at each closed edge, at most one at an open edge, two between words (RFC 4518 2.6.1). Takes one allocation and
-/// its growths.
+/// One SPACE at each closed edge, at most one at an open edge, two between words (RFC 4518 2.6.1). Takes one allocation
+/// and its growths.
 pub fn spaced(alloc: Global, text: &[char], part: Part) -> Result<String, AllocError>
     ensures { IfOk result (λ s. string_bytes s ≡ encode_utf8_all (spaced_text part text.now)) }
 {

@@ -5,8 +5,8 @@ ghost use Rattle.ldap_syntax.specs.Times.{is_time as is_time_text, is_field as i
 
 use ldap_words::is_digit;
 
-/// Whether the octets are a time, `YYYYMMDDHHMMSSZ` (RFC 4517 3.3.13): a month from 01 to 12, a day from 01 to 31, an hour
-/// from 00 to 23, a minute from 00 to 59, a second from 00 to 60.
+/// Whether the octets are a time, `YYYYMMDDHHMMSSZ` (RFC 4517 3.3.13): a month from 01 to 12, a day from 01 to 31, an
+/// hour from 00 to 23, a minute from 00 to 59, a second from 00 to 60.
 pub fn is_time(value: &[u8]) -> bool
     ensures { result ≡ is_time_text value.now }
 {

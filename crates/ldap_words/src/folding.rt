@@ -17,7 +17,8 @@ pub fn lower_case(alloc: Global, octets: &[u8]) -> Result<Vec<u8>, AllocError>
         .collect(alloc)
 }
 
-/// The kept octets against the asked ones in lower case: octet by octet, and octets before what they begin. No memory is asked for.
+/// The kept octets against the asked ones in lower case: octet by octet, and octets before what they begin. No memory
+/// is asked for.
 pub fn compare_folded(kept: &[u8], asked: &[u8]) -> Ordering
     ensures { result ≡ order kept.now (map to_ascii_lowercase asked.now) }
 {

@@ -71,7 +71,8 @@ fn with_digit(number: u64, octet: u8) -> Option<u64>
     }
 }
 
-/// The number that decimal digits write, leading zeros or not, up to 9223372036854775807; none, where there is another octet or no digit.
+/// The number that decimal digits write, leading zeros or not, up to 9223372036854775807; none, where there is another
+/// octet or no digit.
 #[tactic(auto, using(crate::proofs::Numbers::digit_more, crate::proofs::Numbers::number_is))]
 pub fn number_of_digits(text: &[u8]) -> Option<u64>
     ensures { result ≡ number_of text.now }

@@ -25,8 +25,8 @@ pub enum Syntax {
     TelephoneNumber,
 }
 
-/// How values are made ready for comparison. The equality, the ordering and the substrings rule of one family share their
-/// keys (RFC 4517 4.2).
+/// How values are made ready for comparison. The equality, the ordering and the substrings rule of one family share
+/// their keys (RFC 4517 4.2).
 #[derive(Clone, Copy, Debug, PartialEq, Eq)]
 pub enum Family {
     /// objectIdentifierMatch
@@ -55,8 +55,8 @@ pub enum Family {
     Ia5Exact,
 }
 
-/// A matching rule: a family, on the values of one syntax. Which pairs there are `is_used_on` tells; the rule of any other
-/// pair takes the values that are in the syntax and mean something in the family.
+/// A matching rule: a family, on the values of one syntax. Which pairs there are `is_used_on` tells; the rule of any
+/// other pair takes the values that are in the syntax and mean something in the family.
 #[derive(Clone, Copy, Debug, PartialEq, Eq)]
 pub struct Rule {
     pub family: Family,

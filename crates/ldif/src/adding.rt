@@ -28,7 +28,8 @@ fn index_of(indexes: &Indexes, folded: &[u8]) -> Option<usize>
 
 /// The index becomes that of the type.
 fn put_index(indexes: &mut Indexes, folded: Vec<u8>, index: usize) -> Result<(), AllocError>
-    ensures { OnOk result ((q : List ℕ) → number_at indexes.new.entries q ≡ cond (bytes_eq q folded.items) (Some index) (number_at indexes.old.entries q)) }
+    ensures { OnOk result ((q : List ℕ) → number_at indexes.new.entries q ≡ cond (bytes_eq q folded.items)
+        (Some index) (number_at indexes.old.entries q)) }
 {
     indexes.insert(folded, index)?;
     Ok(())
@@ -36,7 +37,8 @@ fn put_index(indexes: &mut Indexes, folded: Vec<u8>, index: usize) -> Result<(),
 
 /// Puts another value into the attribute at this index, if there is one.
 fn join(attributes: &mut Vec<Attribute>, index: usize, octets: Vec<u8>) -> Result<(), AllocError>
-    ensures { OnOk result (map attribute_view attributes.new.items ≡ joined (map attribute_view attributes.old.items) index octets.items) }
+    ensures { OnOk result (map attribute_view attributes.new.items ≡ joined (map attribute_view attributes.old.items)
+        index octets.items) }
 {
     if index < attributes.as_slice().len() {
         attributes[index].values.push(octets)?;
@@ -55,7 +57,8 @@ fn begin(
 ) -> Result<(), AllocError>
     ensures attributes { OnOk result (map attribute_view attributes.new.items ≡ map attribute_view attributes.old.items
         ++ record { description = value.now.description; values = octets.items ∷ [] } ∷ []) }
-    ensures indexes { OnOk result ((q : List ℕ) → number_at indexes.new.entries q ≡ cond (bytes_eq q folded.items) (Some (length attributes.old.items)) (number_at indexes.old.entries q)) }
+    ensures indexes { OnOk result ((q : List ℕ) → number_at indexes.new.entries q ≡ cond (bytes_eq q folded.items)
+        (Some (length attributes.old.items)) (number_at indexes.old.entries q)) }
 {
     put_index(indexes, folded, attributes.as_slice().len())?;
     let mut values = Vec::new(alloc);
@@ -75,8 +78,11 @@ fn put_line(
     attributes: &mut Vec<Attribute>,
     value: &AttributeValue,
 ) -> Result<(), AllocError>
-    ensures attributes { OnOk result (map attribute_view attributes.new.items ≡ with_line (map attribute_view attributes.old.items) (number_at indexes.old.entries (lower_type value.now)) value.now) }
-    ensures indexes { OnOk result ((q : List ℕ) → number_at indexes.new.entries q ≡ kept_or (number_at indexes.old.entries q) (has_type q value.now) (length attributes.old.items)) }
+    ensures attributes { OnOk result (map attribute_view attributes.new.items ≡
+        with_line (map attribute_view attributes.old.items) (number_at indexes.old.entries (lower_type value.now))
+        value.now) }
+    ensures indexes { OnOk result ((q : List ℕ) → number_at indexes.new.entries q ≡
+        kept_or (number_at indexes.old.entries q) (has_type q value.now) (length attributes.old.items)) }
 {
     let folded = lower_case(alloc, value.description().as_bytes())?;
     let octets = Vec::from_slice(alloc, value.octets())?;
@@ -98,8 +104,8 @@ fn attributes_of(alloc: Global, values: &[AttributeValue]) -> Result<Vec<Attribu
     Ok(attributes)
 }
 
-/// The add of the entry that a record is (RFC 4511 4.7): the lines of one type, in any case, are one attribute at the place of the
-/// first of them. Fails only when it runs out of memory.
+/// The add of the entry that a record is (RFC 4511 4.7): the lines of one type, in any case, are one attribute at the
+/// place of the first of them. Fails only when it runs out of memory.
 pub fn add_of(alloc: Global, item: &Record) -> Result<AddRequest, AllocError>
     ensures { IfOk result (λ a. add_view a ≡ adds.add_of item.now) }
 {

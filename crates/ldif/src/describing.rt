@@ -19,8 +19,8 @@ pub fn begins_change(octets: &[u8]) -> bool
     is_same_word(octets, b"changetype") || is_same_word(octets, b"control")
 }
 
-/// Whether the octets are the type of a value of a record (RFC 2849, attrval-spec): an attribute description (RFC 4512 2.5) other than
-/// `dn`, `changetype` and `control`, in any case.
+/// Whether the octets are the type of a value of a record (RFC 2849, attrval-spec): an attribute description (RFC 4512
+/// 2.5) other than `dn`, `changetype` and `control`, in any case.
 pub fn is_type(octets: &[u8]) -> bool
     ensures { result ≡ descriptions.is_type octets.now }
 {

@@ -31,8 +31,8 @@ fn written(alloc: Global, meant: Vec<Meant>) -> Result<Vec<u8>, AllocError>
     write(alloc, &records)
 }
 
-/// What is written of lines of hex, each one whole response to a search (RFC 4511 4.5.2): the entries as a text of LDIF (RFC 2849). Empty
-/// lines are skipped. The last message has to be the end of the search, with code 0.
+/// What is written of lines of hex, each one whole response to a search (RFC 4511 4.5.2): the entries as a text of LDIF
+/// (RFC 2849). Empty lines are skipped. The last message has to be the end of the search, with code 0.
 pub fn export_text(alloc: Global, text: &[u8]) -> Result<Vec<u8>, ExportError>
     // What is written is the records of the entries that the lines spell.
     ensures written { IfOk result (λ v. IsExport text.now v.items) }

@@ -49,9 +49,11 @@ fn put_line(
     line: &[u8],
     messages: &mut Vec<Vec<u8>>,
 ) -> Result<(), ExportError>
-    ensures taken { OnOk result ((rest : Result (List (List ℕ)) ℕ) → specs.after (map (λ v. v.items) messages.new.items) rest
+    ensures taken { OnOk result ((rest : Result (List (List ℕ)) ℕ) →
+        specs.after (map (λ v. v.items) messages.new.items) rest
         ≡ specs.after (map (λ v. v.items) messages.old.items) (specs.line_then number line.now rest)) }
-    ensures refused { IfErr result (λ e. (rest : Result (List (List ℕ)) ℕ) → IsLineFault e (specs.line_then number line.now rest)) }
+    ensures refused { IfErr result (λ e. (rest : Result (List (List ℕ)) ℕ) →
+        IsLineFault e (specs.line_then number line.now rest)) }
 {
     if line.is_empty() {
         return Ok(());
@@ -67,8 +69,10 @@ fn put_line(
 
 /// The octets that lines spell.
 fn octets_of_all(alloc: Global, parts: &[&[u8]]) -> Result<Vec<Vec<u8>>, ExportError>
-    ensures found { IfOk result (λ v. specs.octets_from 1 (map lines.without_return (map (λ x. x.now) parts.now)) ≡ Ok (map (λ x. x.items) v.items)) }
-    ensures refused { IfErr result (λ e. IsLineFault e (specs.octets_from 1 (map lines.without_return (map (λ x. x.now) parts.now)))) }
+    ensures found { IfOk result (λ v. specs.octets_from 1 (map lines.without_return (map (λ x. x.now) parts.now)) ≡
+        Ok (map (λ x. x.items) v.items)) }
+    ensures refused { IfErr result
+        (λ e. IsLineFault e (specs.octets_from 1 (map lines.without_return (map (λ x. x.now) parts.now)))) }
 {
     let mut messages = Vec::new(alloc);
     for (index, part) in parts.iter().enumerate() {

@@ -24,12 +24,13 @@ fn read_records(alloc: Global, text: &[u8]) -> Result<Vec<Record>, ImportError>
     }
 }
 
-/// What is written of a text of LDIF (RFC 2849): for each record its AddRequest (RFC 4511 4.7) as a line of lower-case hex, with
-/// messageIDs from 1 on.
+/// What is written of a text of LDIF (RFC 2849): for each record its AddRequest (RFC 4511 4.7) as a line of lower-case
+/// hex, with messageIDs from 1 on.
 pub fn import_text(alloc: Global, text: &[u8]) -> Result<Vec<u8>, ImportError>
     // What is written is the adds of the records that the text is.
     ensures written { IfOk result (λ v. IsImport text.now v.items) }
-    // E19 comes where the text is no LDIF, with its line and cause; E3 where an add is too long, and the last one where messageIDs run out.
+    // E19 comes where the text is no LDIF, with its line and cause; E3 where an add is too long, and the last one where
+    // messageIDs run out.
     ensures refused { IfErr result (λ e. IsImportFault e text.now) }
 {
     let records = read_records(alloc, text)?;

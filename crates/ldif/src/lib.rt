@@ -11,9 +11,10 @@
 //! `judging` says what each message is among a search's responses (`Meant`), `ending` what is wrong first, `showing` an
 //! entry's record.
 //!
-//! Proved: records and their text are each other's, by the grammar of lines; E19 has the first wrong line and its
-//! cause (`write`, `read`, `records_are_of_text`, `written_is_read_back`). An import is the adds of the records, with ids from 1, and
-//! an export the LDIF of the responses' entries. The first refusal in order is given (`import_text`, `export_text`).
+//! Proved: records and their text are each other's, by the grammar of lines; E19 has the first wrong line and its cause
+//! (`write`, `read`, `records_are_of_text`, `written_is_read_back`). An import is the adds of the records, with ids
+//! from 1, and an export the LDIF of the responses' entries. The first refusal in order is given (`import_text`,
+//! `export_text`).
 #![tactic(auto)]
 
 mod adding;

@@ -97,14 +97,16 @@ fn continuation<'a>(line: &[u8], part: &'a [u8]) -> Option<&'a [u8]>
     }
 }
 
-/// Puts a part behind lines: it continues the last one, or is one of its own. After an `Err` no line is there but the first ones, as they were.
+/// Puts a part behind lines: it continues the last one, or is one of its own. After an `Err` no line is there but the
+/// first ones, as they were.
 fn put_part(
     alloc: Global,
     lines: &mut Vec<Line>,
     number: usize,
     part: &[u8],
 ) -> Result<(), AllocError>
-    ensures ok { OnOk result (folding.Puts lines.old.items (record { number = number; text = part.now }) lines.new.items) }
+    ensures ok { OnOk result (folding.Puts lines.old.items (record { number = number; text = part.now })
+        lines.new.items) }
     ensures err { OnErr result (lines.old.items ≡ lines.new.items ++ drop (length lines.new.items) lines.old.items) }
 {
     let Some(mut last) = lines.pop() else {

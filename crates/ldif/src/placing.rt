@@ -30,7 +30,8 @@ fn first_of(alloc: Global, number: usize) -> Result<Vec<usize>, AllocError>
 
 /// The open record's lines with one more.
 fn with_line(current: Option<Vec<usize>>, number: usize) -> Result<Option<Vec<usize>>, AllocError>
-    ensures { IfOk result (λ o. option_map (λ v. v.items) o ≡ option_map (λ p. p ++ number ∷ []) (option_map (λ v. v.items) current)) }
+    ensures { IfOk result (λ o. option_map (λ v. v.items) o ≡ option_map (λ p. p ++ number ∷ [])
+        (option_map (λ v. v.items) current)) }
 {
     match current {
         Some(mut place) => {
@@ -48,7 +49,8 @@ fn place_after(
     said: &Said,
     number: usize,
 ) -> Result<Option<Vec<usize>>, AllocError>
-    ensures { IfOk result (λ o. option_map (λ v. v.items) o ≡ placing.place_after (option_map (λ v. v.items) current) (said_of said.now) number) }
+    ensures { IfOk result (λ o. option_map (λ v. v.items) o ≡ placing.place_after (option_map (λ v. v.items) current)
+        (said_of said.now) number) }
 {
     match said {
         Said::Blank => Ok(None),
@@ -60,7 +62,8 @@ fn place_after(
 
 /// Puts the lines of a record, if one was open, behind those of others.
 fn close(places: &mut Vec<Vec<usize>>, current: Option<Vec<usize>>) -> Result<(), AllocError>
-    ensures { OnOk result (map (λ v. v.items) places.new.items ≡ map (λ v. v.items) places.old.items ++ option_to_list (option_map (λ v. v.items) current)) }
+    ensures { OnOk result (map (λ v. v.items) places.new.items ≡ map (λ v. v.items) places.old.items ++ option_to_list
+        (option_map (λ v. v.items) current)) }
 {
     if let Some(place) = current {
         places.push(place)?;
@@ -88,8 +91,8 @@ fn places_of(alloc: Global, lines: &[Line]) -> Result<Vec<Vec<usize>>, AllocErro
     Ok(places)
 }
 
-/// The lines of each record of a text that is LDIF, counted from 1, a folded one as its first part: first that of its name, then those of
-/// its values, in their order. Fails only when it runs out of memory.
+/// The lines of each record of a text that is LDIF, counted from 1, a folded one as its first part: first that of its
+/// name, then those of its values, in their order. Fails only when it runs out of memory.
 pub fn record_lines(alloc: Global, text: &[u8]) -> Result<Vec<Vec<usize>>, AllocError>
     ensures { IfOk result (λ v. map (λ p. p.items) v.items ≡ placing.record_lines text.now) }
 {
@@ -109,7 +112,8 @@ fn text_at(lines: &[Line], number: usize) -> &[u8]
     &[]
 }
 
-/// The line of a text that begins at this number, unfolded; nothing, where none does. Fails only when it runs out of memory.
+/// The line of a text that begins at this number, unfolded; nothing, where none does. Fails only when it runs out of
+/// memory.
 pub fn line_at(alloc: Global, text: &[u8], number: usize) -> Result<Vec<u8>, AllocError>
     ensures { IfOk result (λ v. v.items ≡ placing.line_at text.now number) }
 {

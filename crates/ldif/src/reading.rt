@@ -39,8 +39,8 @@ fn read_lines(alloc: Global, lines: &[Line]) -> Result<Vec<Record>, LdifError>
 }
 
 /// The records of a text (RFC 2849). Lines end by LF or CRLF; one that begins with a space continues the one before it;
-/// comments are skipped. `E19` with the first line that is wrong, counted from 1, a folded one as its first part, and the
-/// cause.
+/// comments are skipped. `E19` with the first line that is wrong, counted from 1, a folded one as its first part, and
+/// the cause.
 pub fn read(alloc: Global, octets: &[u8]) -> Result<Vec<Record>, LdifError>
     // What is read is the records of the text.
     ensures found { IfOk result (λ v. specs.records_of octets.now ≡ Ok v.items) }

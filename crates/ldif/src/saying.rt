@@ -154,7 +154,8 @@ fn no_octets(in_base64: bool) -> LdifCause
 
 /// What a line of a type and a value says.
 fn pair_said(alloc: Global, word: &[u8], part: &[u8]) -> Result<Said, AllocError>
-    ensures { IfOk result (λ s. said_of s ≡ says.pair_says (says.is_encoded part.now) word.now (says.octets_of part.now)) }
+    ensures { IfOk result (λ s. said_of s ≡ says.pair_says (says.is_encoded part.now) word.now
+        (says.octets_of part.now)) }
 {
     match octets_of(alloc, part)? {
         None => Ok(Said::Wrong(no_octets(is_encoded(part)))),

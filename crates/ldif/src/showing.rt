@@ -23,7 +23,8 @@ fn put_lines(
     given: &[Vec<u8>],
     values: &mut Vec<AttributeValue>,
 ) -> Result<(), AllocError>
-    ensures { OnOk result (values.new.items ≡ values.old.items ++ entries.lines_with description.now (map (λ v. v.items) given.now)) }
+    ensures { OnOk result (values.new.items ≡ values.old.items ++ entries.lines_with description.now
+        (map (λ v. v.items) given.now)) }
 {
     for octets in given {
         values.push(line_of(alloc, description, octets)?)?;
@@ -50,8 +51,8 @@ fn lines_of_all(
     Ok(values)
 }
 
-/// The record of an entry that a search shows: its name, and its attributes' values in their order, each with its attribute's description.
-/// An attribute without values gives no line. Fails only for want of memory.
+/// The record of an entry that a search shows: its name, and its attributes' values in their order, each with its
+/// attribute's description. An attribute without values gives no line. Fails only for want of memory.
 pub fn record_of(alloc: Global, entry: &SearchResultEntry) -> Result<Record, AllocError>
     ensures { IfOk result (λ r. r ≡ entries.record_of (entry_view entry.now)) }
 {

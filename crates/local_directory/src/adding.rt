@@ -21,8 +21,10 @@ pub fn add_record(
     item: &Record,
 ) -> Result<u32, AllocError>
     requires above { NumbersBelow number store.old.directory.entries }
-    ensures applied { OnOk result (store.new.directory ≡ applied store.old.directory number (add_op (add_value item.now))) }
-    ensures code { IfOk result (λ code. code ≡ (reply_to store.old.directory number (add_op (add_value item.now))).code) }
+    ensures applied { OnOk result (store.new.directory ≡ applied store.old.directory number
+        (add_op (add_value item.now))) }
+    ensures code { IfOk result
+        (λ code. code ≡ (reply_to store.old.directory number (add_op (add_value item.now))).code) }
     ensures below { OnOk result (NumbersBelow (number + 1) store.new.directory.entries) }
     ensures indexes { store.new.indexes ≡ store.old.indexes }
 {
@@ -40,10 +42,12 @@ fn put_record(
     item: &Record,
 ) -> Result<(), SearchError>
     requires above { NumbersBelow number store.old.directory.entries }
-    ensures applied { OnOk result (store.new.directory ≡ applied store.old.directory number (add_op (add_value item.now))) }
+    ensures applied { OnOk result (store.new.directory ≡ applied store.old.directory number
+        (add_op (add_value item.now))) }
     ensures accepted { OnOk result ((reply_to store.old.directory number (add_op (add_value item.now))).code ≡ 0) }
     ensures below { OnOk result (NumbersBelow (number + 1) store.new.directory.entries) }
-    ensures refused { IfErr result (λ e. IsPutFault e number (reply_to store.old.directory number (add_op (add_value item.now))).code) }
+    ensures refused { IfErr result (λ e. IsPutFault e number (reply_to store.old.directory number
+        (add_op (add_value item.now))).code) }
     ensures indexes { store.new.indexes ≡ store.old.indexes }
 {
     let code = add_record(alloc, store, number, item)?;

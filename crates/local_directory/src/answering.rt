@@ -75,8 +75,10 @@ impl AnswerContext<'_> {
         output: &mut W,
     ) -> Result<Next, LineFault>
         ensures ok { IfOk result (λ next. HasWorked D.allows (config_view self.now.config) directory.old directory.new
-            (session_view session.old) (session_view session.new) (W.contents output.old) (W.contents output.new) next) }
-        ensures err { IfErr result (λ fault. HasFailed D.allows (config_view self.now.config) directory.old directory.new
+            (session_view session.old) (session_view session.new) (W.contents output.old) (W.contents output.new)
+            next) }
+        ensures err { IfErr result (λ fault. HasFailed D.allows (config_view self.now.config) directory.old
+            directory.new
             (session_view session.old) (W.contents output.old) (W.contents output.new) fault) }
     {
         loop {
@@ -102,8 +104,10 @@ impl AnswerContext<'_> {
         output: &mut W,
     ) -> Result<Next, LineFault>
         ensures ok { IfOk result (λ next. HasFed D.allows (config_view self.now.config) directory.old directory.new
-            (session_view session.old) (session_view session.new) piece.now (W.contents output.old) (W.contents output.new) next) }
-        ensures err { IfErr result (λ fault. HasFailedAt D.allows (config_view self.now.config) directory.old directory.new
+            (session_view session.old) (session_view session.new) piece.now (W.contents output.old)
+            (W.contents output.new) next) }
+        ensures err { IfErr result (λ fault. HasFailedAt D.allows (config_view self.now.config) directory.old
+            directory.new
             (session_view session.old) piece.now (W.contents output.old) (W.contents output.new) fault) }
     {
         match session.feed(piece) {
@@ -124,7 +128,8 @@ impl AnswerContext<'_> {
         output: &mut W,
     ) -> Result<Flow, LineFault>
         ensures ok { IfOk result (λ flow. Takes D.allows (config_view self.now.config) directory.old directory.new
-            (session_view session.old) (session_view session.new) line (W.contents output.old) (W.contents output.new) flow) }
+            (session_view session.old) (session_view session.new) line (W.contents output.old) (W.contents output.new)
+            flow) }
         ensures end { IfOk result EndsProperly }
         ensures err { IfErr result (λ fault. FailsAt D.allows (config_view self.now.config) directory.old directory.new
             (session_view session.old) line (W.contents output.old) (W.contents output.new) fault) }
@@ -141,8 +146,9 @@ impl AnswerContext<'_> {
     }
 }
 
-/// Answers an input line by line, up to its end or what ends the session: each line is a piece of the stream in hex, each response a line;
-/// empty lines are skipped. What is written is flushed before the next line is read. The 18446744073709551615th line counts as one that can't be read.
+/// Answers an input line by line, up to its end or what ends the session: each line is a piece of the stream in hex,
+/// each response a line; empty lines are skipped. What is written is flushed before the next line is read. The
+/// 18446744073709551615th line counts as one that can't be read.
 pub fn answer_lines<R: BufRead, W: Write, D: Directory>(
     alloc: Global,
     config: &Config,
@@ -151,12 +157,16 @@ pub fn answer_lines<R: BufRead, W: Write, D: Directory>(
     output: &mut W,
 ) -> Result<SessionEnd, LineFault>
     // The output grows by the responses of a session over the stream that the lines spell.
-    ensures ok { IfOk result (λ end. Answers D.allows (config_view config.now) directory.old directory.new (R.remaining input.old) (R.remaining input.new)
+    ensures ok { IfOk result (λ end. Answers D.allows (config_view config.now) directory.old directory.new
+        (R.remaining input.old) (R.remaining input.new)
         (W.contents output.old) (W.contents output.new) end) }
-    // Whatever the input and the output are, a session that ends so was not cut short by a read or a write that failed, nor by want of memory.
+    // Whatever the input and the output are, a session that ends so was not cut short by a read or a write that failed,
+    // nor by want of memory.
     ensures end { IfOk result IsProperEnd }
-    // Before a line that can't be read all is answered and written; a front of that, where it can't be written or memory is wanting.
-    ensures err { IfErr result (λ fault. Fails D.allows (config_view config.now) directory.old directory.new (R.remaining input.old)
+    // Before a line that can't be read all is answered and written; a front of that, where it can't be written or
+    // memory is wanting.
+    ensures err { IfErr result (λ fault. Fails D.allows (config_view config.now) directory.old directory.new
+        (R.remaining input.old)
         (W.contents output.old) (W.contents output.new) fault) }
 {
     let terms = AnswerContext {

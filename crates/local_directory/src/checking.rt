@@ -26,7 +26,8 @@ pub struct Checked {
 
 /// Notes a record whose add has this code, where that is a refusal.
 fn note(refused: &mut Vec<RefusedRecord>, number: u64, code: u32) -> Result<(), AllocError>
-    ensures { OnOk result ((rest : List RefusedRecord) → refused.new.items ++ rest ≡ refused.old.items ++ refusal_and number code rest) }
+    ensures { OnOk result ((rest : List RefusedRecord) → refused.new.items ++ rest ≡ refused.old.items ++ refusal_and
+        number code rest) }
 {
     if code != 0 {
         refused.push(RefusedRecord { number, code })?;
@@ -53,8 +54,9 @@ fn check_records(
     Ok(refused)
 }
 
-/// Which records of a text (RFC 2849) a directory without entries refuses, when each is added in turn under the numbers from 1 on; a record that is
-/// refused changes nothing, and the next one is added all the same. A text that is no LDIF is refused with its first wrong line.
+/// Which records of a text (RFC 2849) a directory without entries refuses, when each is added in turn under the numbers
+/// from 1 on; a record that is refused changes nothing, and the next one is added all the same. A text that is no LDIF
+/// is refused with its first wrong line.
 pub fn check_text(alloc: Global, store: Store, text: &[u8]) -> Result<Checked, SearchError>
     requires empty { NumbersBelow 1 store.directory.entries }
     ensures checked { IfOk result (λ c. IsChecked store.directory text.now c.count c.refused.items) }

@@ -27,7 +27,8 @@ fn read_fault(kind: ErrorKind) -> LineFault
 
 /// The octets of the next line, without its end; `None` at the end of the input.
 pub fn next_line<R: BufRead>(alloc: Global, input: &mut R) -> Result<Option<Vec<u8>>, LineFault>
-    ensures ok { IfOk result (λ line. IfSome (R.remaining input.old) (λ xs. IsNextLine xs (option_map (λ v. v.items) line) (R.remaining input.new))) }
+    ensures ok { IfOk result (λ line. IfSome (R.remaining input.old)
+        (λ xs. IsNextLine xs (option_map (λ v. v.items) line) (R.remaining input.new))) }
     ensures err { IfErr result IsReadFault }
 {
     let mut line = Vec::new(alloc);
@@ -69,7 +70,8 @@ fn read_hex(alloc: Global, line: &[u8], number: u64) -> Result<Line, LineFault>
 
 /// Reads the next line, whose number this is.
 pub fn next_piece<R: BufRead>(alloc: Global, input: &mut R, number: u64) -> Result<Line, LineFault>
-    ensures ok { IfOk result (λ line. IfSome (R.remaining input.old) (λ xs. BeginsWith xs line (R.remaining input.new))) }
+    ensures ok { IfOk result (λ line. IfSome (R.remaining input.old)
+        (λ xs. BeginsWith xs line (R.remaining input.new))) }
     ensures err { IfErr result (λ fault. IfSome (R.remaining input.old) (λ xs. IsLineFault xs number fault)) }
 {
     match next_line(alloc, input)? {
@@ -91,7 +93,8 @@ fn line_of(alloc: Global, octets: &[u8]) -> Result<String, LineFault>
 /// Writes octets as a line of lower-case hex.
 fn write_line<W: Write>(alloc: Global, octets: &[u8], output: &mut W) -> Result<(), LineFault>
     ensures ok { OnOk result (Appends (W.contents output.old) (W.contents output.new) (hex_line octets.now)) }
-    ensures err { IfErr result (λ fault. IsCutOff (W.contents output.old) (W.contents output.new) (hex_line octets.now) fault) }
+    ensures err { IfErr result (λ fault. IsCutOff (W.contents output.old) (W.contents output.new)
+        (hex_line octets.now) fault) }
 {
     let line = line_of(alloc, octets)?;
     if write_octets(output, line.as_bytes()) {
@@ -108,7 +111,8 @@ pub fn write_lines<W: Write>(
     output: &mut W,
 ) -> Result<(), LineFault>
     ensures ok { OnOk result (Appends (W.contents output.old) (W.contents output.new) (hex_lines responses.now)) }
-    ensures err { IfErr result (λ fault. IsCutOff (W.contents output.old) (W.contents output.new) (hex_lines responses.now) fault) }
+    ensures err { IfErr result (λ fault. IsCutOff (W.contents output.old) (W.contents output.new)
+        (hex_lines responses.now) fault) }
 {
     let mut rest = responses.octets();
     for length in responses.lengths() {

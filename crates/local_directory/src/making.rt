@@ -67,7 +67,8 @@ fn make_with_room(
     ensures reply { IfOk result (λ r. reply_view r ≡ reply_to store.old.directory number op.now) }
     ensures directory { OnOk result (store.new.directory ≡ applied store.old.directory number op.now) }
     ensures kept { OnOk result (clients.new
-        ≡ map.insert clients.old request.client (kept_as request.number number (reply_to store.old.directory number op.now))) }
+        ≡ map.insert clients.old request.client (kept_as request.number number (reply_to store.old.directory number
+        op.now))) }
     ensures below { OnOk result (NumbersBelow (number + 1) store.new.directory.entries) }
     ensures err { OnErr result (store.new ≡ store.old) }
     ensures err_clients { OnErr result (clients.new ≡ clients.old) }
@@ -90,7 +91,8 @@ pub fn make(
     ensures reply { IfOk result (λ r. reply_view r ≡ reply_to store.old.directory number op.now) }
     ensures directory { OnOk result (store.new.directory ≡ applied store.old.directory number op.now) }
     ensures kept { OnOk result (clients.new
-        ≡ map.insert clients.old request.client (kept_as request.number number (reply_to store.old.directory number op.now))) }
+        ≡ map.insert clients.old request.client (kept_as request.number number (reply_to store.old.directory number
+        op.now))) }
     ensures below { OnOk result (NumbersBelow (number + 1) store.new.directory.entries) }
     ensures err { OnErr result (store.new ≡ store.old) }
     ensures err_clients { OnErr result (clients.new ≡ clients.old) }

@@ -60,8 +60,8 @@ fn text_of_answer(
     Ok(write(alloc, &records)?)
 }
 
-/// What is written of a search (RFC 4511 4.5) of the directory after the adds of a text's records (RFC 2849), which take the numbers
-/// from 1 on: the entries that it shows, as a text of LDIF.
+/// What is written of a search (RFC 4511 4.5) of the directory after the adds of a text's records (RFC 2849), which
+/// take the numbers from 1 on: the entries that it shows, as a text of LDIF.
 pub fn search_text(
     alloc: Global,
     store: Store,
@@ -80,8 +80,8 @@ pub fn search_text(
     text_of_answer(alloc, &store, request)
 }
 
-/// A directory without entries with the records of a text (RFC 2849), which take the numbers from 1 on; or the first line that is no LDIF, else the first
-/// record that is refused.
+/// A directory without entries with the records of a text (RFC 2849), which take the numbers from 1 on; or the first
+/// line that is no LDIF, else the first record that is refused.
 pub fn fill(alloc: Global, store: Store, text: &[u8]) -> Result<Store, SearchError>
     requires empty { NumbersBelow 1 store.directory.entries }
     ensures filled { IfOk result (λ s. IsFilled store text.now s) }
@@ -109,7 +109,8 @@ pub fn search_cost(
     request: &SearchRequest,
 ) -> Result<Cost, SearchError>
     ensures success { OnOk result ((answer_of store.now.directory (search_view request.now)).code ≡ 0) }
-    ensures shown { IfOk result (λ c. c.shown ≡ length (answer_of store.now.directory (search_view request.now)).entries) }
+    ensures shown { IfOk result
+        (λ c. c.shown ≡ length (answer_of store.now.directory (search_view request.now)).entries) }
     ensures tests { IfOk result (λ c. IsCountOf store.now (search_view request.now) c.tests) }
     ensures refused { IfErr result (λ e. IsShowFault e (answer_of store.now.directory (search_view request.now))) }
 {

@@ -21,7 +21,8 @@ impl<'a> Display for Address<'a> {
 }
 
 impl<'a> Address<'a> {
-    /// The address, of a name's the first that the system has now; none, where it has none. A look-up may wait for the system.
+    /// The address, of a name's the first that the system has now; none, where it has none. A look-up may wait for the
+    /// system.
     pub fn first<R: Net>(&self, rt: &R) -> Option<SocketAddr> {
         match self {
             Address::Numbers(address) => Some(*address),

@@ -1,4 +1,5 @@
-//! What a replica says of its own start when it greets: which start it is, and what it remembers. It is of the start, so that a process always greets alike.
+//! What a replica says of its own start when it greets: which start it is, and what it remembers. It is of the start,
+//! so that a process always greets alike.
 ghost use Rattle.std.specs.Prelude.{◌≡◌, ◌≢◌, ◌⊎◌, ◌+◌, ◌≤◌, ◌++◌, IfSome, IfNone, OnOk, length};
 ghost use Rattle.peer_link.specs.Claims.{claim_in, claim_octets, flag, flag_in, number_at, numeral};
 

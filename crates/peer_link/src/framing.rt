@@ -10,11 +10,12 @@ pub trait Framing<T> {
     /// The item whose frames are asked for next. What is left of the one before is given up.
     fn begin(&mut self, item: T);
 
-    /// The next frame of that item, where there is one more. An item that can't be made a frame of, or not all of it, is lost, and this is told
-    /// by whoever makes the frames.
+    /// The next frame of that item, where there is one more. An item that can't be made a frame of, or not all of it,
+    /// is lost, and this is told by whoever makes the frames.
     fn next_frame(&mut self) -> Option<Bytes>;
 
-    /// The stream has failed that was taking frames: what is left of the item is given up, with the memory that it takes.
+    /// The stream has failed that was taking frames: what is left of the item is given up, with the memory that it
+    /// takes.
     fn fail(&mut self);
 
     /// The other end is there: it has answered, or it is one that never answers and its stream is open.

@@ -2,7 +2,8 @@
 ghost use Rattle.peer_link.specs.Claims.{ClaimsAreRead};
 ghost use Rattle.peer_link.specs.Past.{ForwardIsTaken, RefusalsHaveCause};
 
-/// A start that comes after all that its replica said isn't refused; one that is refused doesn't remember something that was said.
+/// A start that comes after all that its replica said isn't refused; one that is refused doesn't remember something
+/// that was said.
 pub fn who_is_refused()
     ensures forward { ForwardIsTaken }
     ensures cause { RefusalsHaveCause }

@@ -9,13 +9,13 @@
 //!
 //! A greeting, the first frame on each connection, has digests of what all replicas of a cluster must have alike
 //! (`terms`), and what the sender's start remembers (`claim`). `meeting` compares the digests with the own ones: a
-//! replica that was started with another schema is refused, and named, before anything else of it is heard. `past` keeps
-//! what another replica has said while this one runs; a start of it that remembers less has files older than what it
-//! said, and is refused.
+//! replica that was started with another schema is refused, and named, before anything else of it is heard. `past`
+//! keeps what another replica has said while this one runs; a start of it that remembers less has files older than what
+//! it said, and is refused.
 //!
 //! Proved: an item that comes is last, and only the oldest go for it, where there was no room (`MessageQueue::push`).
-//! Items leave in order (`pop`). A frame's head and rest are the next octets of the stream (`read_head`, `read_rest`). A
-//! replica is taken for alike exactly where its digests are the own ones; else the first difference is named
+//! Items leave in order (`pop`). A frame's head and rest are the next octets of the stream (`read_head`, `read_rest`).
+//! A replica is taken for alike exactly where its digests are the own ones; else the first difference is named
 //! (`greeting`, `meet`). A start that comes after all that its replica said isn't refused, and one that is refused
 //! doesn't remember something that was said (`who_is_refused`).
 #![tactic(auto)]

@@ -30,7 +30,8 @@ pub enum Met {
     Other { sender: u8, term: Term },
 }
 
-/// What the first octets of a greeting of this cluster say. E20 only where no greeting begins so, E24 only where none of this cluster does.
+/// What the first octets of a greeting of this cluster say. E20 only where no greeting begins so, E24 only where none
+/// of this cluster does.
 pub fn greeting_heading(first: [u8; 13], cluster: Cluster) -> Result<Heading, WireError>
     ensures { Heads cluster first result }
 {
@@ -105,7 +106,8 @@ fn meet_sender(sender: u8, behind: &[u8], own: &Terms) -> Result<Met, WireError>
     }
 }
 
-/// What the first frame of a connection says beside one's own terms. E20 where it is no greeting, E24 where it is one of another cluster.
+/// What the first frame of a connection says beside one's own terms. E20 where it is no greeting, E24 where it is one
+/// of another cluster.
 pub fn meet(frame: &[u8], cluster: Cluster, own: &Terms) -> Result<Met, WireError>
     ensures { HasMet cluster frame.now own.now result }
 {

@@ -32,8 +32,8 @@ impl<T: Drop> Drop for LockedQueue<T> {
     }
 }
 
-/// What waits for one other replica, under a lock, with a condition to wait for the next item. At most so many wait, of at most so great a
-/// weight; the newest always does.
+/// What waits for one other replica, under a lock, with a condition to wait for the next item. At most so many wait, of
+/// at most so great a weight; the newest always does.
 pub struct Outbox<T> {
     held: Mutex<LockedQueue<T>>,
     changed: Condvar,
@@ -115,8 +115,8 @@ impl<T> Outbox<T> {
 }
 
 impl<T: Drop> Outbox<T> {
-    /// An item of this weight to be sent, behind those that wait. It waits for nothing but the lock and takes no memory; the oldest items are
-    /// forgotten where there is no room.
+    /// An item of this weight to be sent, behind those that wait. It waits for nothing but the lock and takes no
+    /// memory; the oldest items are forgotten where there is no room.
     pub fn put<R: Wait>(&self, rt: &R, item: T, weight: usize) {
         self.held.lock(rt).queue.push(Weighted { item, weight });
         self.changed.notify_one();

@@ -1,4 +1,5 @@
-//! What another replica has said while this one runs, and whether a start of it remembers less: then its files are older than what it said.
+//! What another replica has said while this one runs, and whether a start of it remembers less: then its files are
+//! older than what it said.
 ghost use Rattle.std.specs.Prelude.{◌≡◌};
 ghost use Rattle.peer_link.specs.Past.{after_greeting, after_saying, is_further, is_same_start, judged, nothing_said, reach_of, reached};
 ghost use Rattle.peer_link.specs.Saying.{reach_held, reach_said, view_said};
@@ -151,7 +152,8 @@ impl Past {
         }
     }
 
-    /// What a start that greets doesn't remember of it; nothing, where it remembers all, or is the one that greeted last.
+    /// What a start that greets doesn't remember of it; nothing, where it remembers all, or is the one that greeted
+    /// last.
     pub fn judge(&self, claim: &Claim) -> Option<Forgotten>
         ensures { result ≡ judged self.now claim.now }
     {

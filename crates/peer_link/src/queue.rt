@@ -7,8 +7,8 @@ use std::alloc::{AllocError, Global};
 use std::collections::VecDeque;
 use std::marker::Model;
 
-/// Items in the order in which they came, at most so many and of at most so great a weight in all: an item too many makes room by forgetting the
-/// oldest. The newest is always kept, however heavy it is.
+/// Items in the order in which they came, at most so many and of at most so great a weight in all: an item too many
+/// makes room by forgetting the oldest. The newest is always kept, however heavy it is.
 pub struct MessageQueue<T> {
     items: VecDeque<Weighted<T>, Global>,
     most_items: usize,
@@ -37,7 +37,8 @@ impl<T> Model for MessageQueue<T> {
 
     ghost view = { λ q. record { waiting = q.items.items; most_items = q.most_items; most_weight = q.most_weight } };
 
-    ghost invariant = { λ q. (0 < q.most_items) × (q.most_items ≤ deque_capacity q.items) × (q.weight ≡ weight_of q.items.items) };
+    ghost invariant = { λ q. (0 < q.most_items) × (q.most_items ≤ deque_capacity q.items)
+        × (q.weight ≡ weight_of q.items.items) };
 }
 
 impl<T> MessageQueue<T> {
@@ -60,7 +61,8 @@ impl<T> MessageQueue<T> {
 
     /// Whether an item of this weight is one too many, where others wait.
     fn is_full_for(&self, weight: usize) -> bool
-        ensures full { IsTrue result → (0 < length self.now.waiting) × (HaveRoom self.now.most_items self.now.most_weight self.now.waiting weight → ⊥) }
+        ensures full { IsTrue result → (0 < length self.now.waiting)
+            × (HaveRoom self.now.most_items self.now.most_weight self.now.waiting weight → ⊥) }
         ensures ready { IsFalse result → IsReadyFor self.now weight }
     {
         if self.items.is_empty() {

@@ -20,13 +20,15 @@ pub enum FrameEnd {
     NoMemory,
 }
 
-/// At most so many octets get room at once, or as many as have come, so that memory grows with what came and not with what was announced.
+/// At most so many octets get room at once, or as many as have come, so that memory grows with what came and not with
+/// what was announced.
 const PIECE: usize = 8_192;
 
 /// Reads at least one octet, where there is one; how many.
 fn read_some<R: Read>(reader: &mut R, buffer: &mut [u8]) -> Result<usize, FrameEnd>
     requires room { 0 < length buffer.old }
-    ensures some { IfOk result (λ count. IsFrontRead (R.remaining reader.old) (R.remaining reader.new) buffer.new count) }
+    ensures some { IfOk result (λ count. IsFrontRead (R.remaining reader.old) (R.remaining reader.new) buffer.new
+        count) }
     ensures closed { IsErrOf result Closed → IsEnded (R.remaining reader.old) (R.remaining reader.new) }
 {
     for _ in 0..u64::MAX {
@@ -74,7 +76,8 @@ pub fn read_head<R: Read>(reader: &mut R) -> Result<[u8; 4], FrameEnd>
 /// Reads so many octets more of a frame.
 fn read_piece<R: Read>(reader: &mut R, frame: &mut Vec<u8>, count: usize) -> Result<(), FrameEnd>
     requires { count ≤ 4294967295 }
-    ensures read { OnOk result (HasRead (R.remaining reader.old) (R.remaining reader.new) frame.old.items frame.new.items count) }
+    ensures read { OnOk result (HasRead (R.remaining reader.old) (R.remaining reader.new) frame.old.items
+        frame.new.items count) }
     ensures open { IsErrOf result Closed → ⊥ }
 {
     let at = frame.len();
@@ -86,7 +89,8 @@ fn read_piece<R: Read>(reader: &mut R, frame: &mut Vec<u8>, count: usize) -> Res
 
 /// Reads so many octets more of a frame. It takes no more room at once than for as many octets as have come, or 8,192.
 pub fn read_more<R: Read>(reader: &mut R, frame: &mut Vec<u8>, count: u32) -> Result<(), FrameEnd>
-    ensures read { OnOk result (HasRead (R.remaining reader.old) (R.remaining reader.new) frame.old.items frame.new.items count) }
+    ensures read { OnOk result (HasRead (R.remaining reader.old) (R.remaining reader.new) frame.old.items
+        frame.new.items count) }
     ensures open { IsErrOf result Closed → ⊥ }
 {
     let mut left = count as usize;
@@ -105,7 +109,8 @@ pub fn read_rest<R: Read>(
     head: [u8; 4],
     count: u32,
 ) -> Result<Vec<u8>, FrameEnd>
-    ensures read { IfOk result (λ frame. HasRead (R.remaining reader.old) (R.remaining reader.new) head frame.items count) }
+    ensures read { IfOk result (λ frame. HasRead (R.remaining reader.old) (R.remaining reader.new) head frame.items
+        count) }
     ensures open { IsErrOf result Closed → ⊥ }
 {
     let Ok(mut frame) = Vec::from_array(alloc, head) else {

@@ -76,8 +76,8 @@ fn forget_waiting<R: Wait, T: Drop>(rt: &R, outbox: &Outbox<T>) {
     }
 }
 
-/// Makes a stream and greets on it, as often as it takes; none where it is stopped meanwhile. What waits for longer than the other end may be silent isn't
-/// sent first once there is a stream again: it is forgotten.
+/// Makes a stream and greets on it, as often as it takes; none where it is stopped meanwhile. What waits for longer
+/// than the other end may be silent isn't sent first once there is a stream again: it is forgotten.
 fn dial_and_greet<R: Wait + Clock, T: Drop, F: Framing<T>, D: Dial>(
     rt: &R,
     alloc: Global,
@@ -143,7 +143,8 @@ fn ask<W: Write>(keep_alive: &mut KeepAlive, stream: &mut W, now: u64) -> bool {
     stream.write_all(&QUESTION).is_ok() && stream.flush().is_ok()
 }
 
-/// The stream, unless its other end has closed it or is silent for too long; the other end is asked whether it is there.
+/// The stream, unless its other end has closed it or is silent for too long; the other end is asked whether it is
+/// there.
 fn still_open<T, F: Framing<T>, D: Dial>(
     framing: &mut F,
     dialer: &mut D,
@@ -221,11 +222,12 @@ fn sent<R: Wait, T, F: Framing<T>, W: Write + Drop>(
     None
 }
 
-/// Sends what waits in a queue, item by item in the order of the queue, over a stream that is made again whenever it fails, or its other end has
-/// closed it or is silent for too long, until the queue is stopped. A stream is made before there is an item, and a greeting is first on each. Frames are
-/// made here, once there is a stream for them, and outside the queue's lock; those of items that wait together go out together. An item whose stream
-/// fails is lost, whole or in part, with those that were to go out with it, and so is the stream. So is what waits while no stream can be made for longer
-/// than the other end may be silent.
+/// Sends what waits in a queue, item by item in the order of the queue, over a stream that is made again whenever it
+/// fails, or its other end has closed it or is silent for too long, until the queue is stopped. A stream is made before
+/// there is an item, and a greeting is first on each. Frames are made here, once there is a stream for them, and
+/// outside the queue's lock; those of items that wait together go out together. An item whose stream fails is lost,
+/// whole or in part, with those that were to go out with it, and so is the stream. So is what waits while no stream can
+/// be made for longer than the other end may be silent.
 pub fn send_all<R: Wait + Clock, T: Drop, F: Framing<T>, D: Dial>(
     rt: &R,
     alloc: Global,

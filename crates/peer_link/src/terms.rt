@@ -34,7 +34,8 @@ fn digest_of(text: Option<&str>) -> [u8; 32]
 }
 
 impl Terms {
-    /// The terms of these texts: the file of the schema, where one is given, the suffix, and the addresses at which clients find the replicas.
+    /// The terms of these texts: the file of the schema, where one is given, the suffix, and the addresses at which
+    /// clients find the replicas.
     pub fn of(schema: Option<&str>, suffix: &str, clients: &str) -> Terms
         ensures { result ≡ terms_of (lent_text schema.entry) suffix.now clients.now }
     {

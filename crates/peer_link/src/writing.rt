@@ -16,7 +16,8 @@ const VERSION: u8 = 2;
 /// The kind of a greeting, which no message has, and no part of one.
 const KIND: u8 = 14;
 
-/// What stands before the digests: how many octets follow the first four, the version, the cluster, the kind and the sender.
+/// What stands before the digests: how many octets follow the first four, the version, the cluster, the kind and the
+/// sender.
 pub fn heading(cluster: Cluster, sender: u8) -> [u8; 13]
     ensures { result ≡ heading_octets cluster sender }
 {
@@ -67,7 +68,8 @@ pub fn greeting(
     Ok(out)
 }
 
-/// The greeting of this sender in this cluster to a replica of version 0.2.0, which says nothing of its start. Its only error is want of memory.
+/// The greeting of this sender in this cluster to a replica of version 0.2.0, which says nothing of its start. Its only
+/// error is want of memory.
 pub fn earlier_greeting(
     alloc: Global,
     cluster: Cluster,

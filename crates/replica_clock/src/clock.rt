@@ -25,7 +25,8 @@ pub enum Due {
     Nothing,
     /// To send again what others may have missed.
     Beat,
-    /// To suspect the primary of its view, to give up a view that doesn't begin, or, where it recovers, to remind the others of its view.
+    /// To suspect the primary of its view, to give up a view that doesn't begin, or, where it recovers, to remind the
+    /// others of its view.
     Suspect,
 }
 
@@ -148,7 +149,8 @@ fn still_given_up(status: Status, given_up: u64, is_long: bool) -> u64
 }
 
 impl ReplicaClock {
-    /// The clock of the replica of this index among so many, in this view with this status. It wants to be asked at once.
+    /// The clock of the replica of this index among so many, in this view with this status. It wants to be asked at
+    /// once.
     pub fn new(
         times: Times,
         index: u64,
@@ -372,7 +374,8 @@ impl ReplicaClock {
         self.is_long = false;
     }
 
-    /// More is committed than the others were told: a primary makes its next beat within a 256th of the time between beats.
+    /// More is committed than the others were told: a primary makes its next beat within a 256th of the time between
+    /// beats.
     pub fn hurry(&mut self, now: u64)
         ensures { self.new ≡ hurried self.old (min now latest) }
     {
@@ -381,8 +384,9 @@ impl ReplicaClock {
         self.ask_at = self.ask_at.min(soon);
     }
 
-    /// The replica of index `from` sent what says this of it. A sign of life is a PREPARE, COMMIT, STARTVIEW or NEWSTATE of the own view, from that
-    /// view's primary, and nothing else. A RECOVERY of that primary says that it has lost its state.
+    /// The replica of index `from` sent what says this of it. A sign of life is a PREPARE, COMMIT, STARTVIEW or
+    /// NEWSTATE of the own view, from that view's primary, and nothing else. A RECOVERY of that primary says that it
+    /// has lost its state.
     pub fn hear(&mut self, from: u64, sign: Sign, now: u64)
         ensures { self.new ≡ heard self.old from sign (min now latest) }
     {

@@ -4,7 +4,8 @@ ghost use Rattle.replica_clock.specs.KeepAlive.{answered, asked, begun, is_due, 
 
 use std::marker::Model;
 
-/// What is known of the other end of the streams to one replica, one stream after the other. Moments and times are in one unit.
+/// What is known of the other end of the streams to one replica, one stream after the other. Moments and times are in
+/// one unit.
 #[derive(Drop)]
 pub struct KeepAlive {
     beat: u64,
@@ -49,10 +50,17 @@ fn is_past(silence: u64, since: Option<u64>, now: u64) -> bool
 }
 
 impl KeepAlive {
-    /// An end that is asked once a beat and may be silent for so long. It has never answered: one that never does isn't given up, since a replica of an
-    /// earlier version answers nothing.
+    /// An end that is asked once a beat and may be silent for so long. It has never answered: one that never does isn't
+    /// given up, since a replica of an earlier version answers nothing.
     pub fn new(beat: u64, silence: u64) -> KeepAlive
-        ensures { result ≡ record { beat = beat; silence = silence; answers = false; asked_at = 0; waits_since = None } }
+        ensures { result ≡ record {
+          beat = beat;
+          silence = silence;
+          answers = false;
+          asked_at = 0;
+          waits_since =
+              None;
+        } }
     {
         KeepAlive {
             beat,

@@ -2,7 +2,8 @@
 ghost use Rattle.replica_clock.specs.Clock.{ACommitIsToldSoon, ALongViewIsAwaitedLonger, AMessageThatComesIsAwaited, AMessageThatIsTakenIsAwaited};
 ghost use Rattle.replica_clock.specs.Runs.{AHeardPrimaryIsTrusted, ASilentPrimaryIsSuspected};
 
-/// A long message is waited for as long as its parts come, or are taken; and the next view longer, where one was given up meanwhile.
+/// A long message is waited for as long as its parts come, or are taken; and the next view longer, where one was given
+/// up meanwhile.
 pub fn long_messages_are_awaited()
     ensures comes { AMessageThatComesIsAwaited }
     ensures taken { AMessageThatIsTakenIsAwaited }
@@ -14,7 +15,8 @@ pub fn commits_are_told_soon()
     ensures { ACommitIsToldSoon }
 {}
 
-/// A backup that hears nothing of its primary suspects it within two suspect periods, and one that hears a sign of its life doesn't for one.
+/// A backup that hears nothing of its primary suspects it within two suspect periods, and one that hears a sign of its
+/// life doesn't for one.
 pub fn silence_is_suspected()
     ensures silent { ASilentPrimaryIsSuspected }
     ensures heard { AHeardPrimaryIsTrusted }

@@ -86,7 +86,8 @@ impl Majority {
         }
     }
 
-    /// Whether it is in touch with a majority at this moment. It is asked about once a beat: where it is asked much too late it was stopped itself.
+    /// Whether it is in touch with a majority at this moment. It is asked about once a beat: where it is asked much too
+    /// late it was stopped itself.
     pub fn ask(&mut self, now: u64) -> bool
         ensures asked { self.new ≡ asked self.old now }
         ensures holds { result ≡ holds self.new now }

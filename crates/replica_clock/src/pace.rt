@@ -1,11 +1,13 @@
-//! What is done again only after a beat: state that is asked for while its answer may be on its way, a beat that is repeated in a long step.
+//! What is done again only after a beat: state that is asked for while its answer may be on its way, a beat that is
+//! repeated in a long step.
 ghost use Rattle.std.specs.Prelude.{◌≡◌, None};
 ghost use Rattle.replica_clock.specs.Pace.{done_at, is_turn, turned};
 
 use crate::times::Times;
 use std::marker::Model;
 
-/// Lets a thing be done at once, and again once a beat has passed since. Moments are in the unit of the times that it is made with.
+/// Lets a thing be done at once, and again once a beat has passed since. Moments are in the unit of the times that it
+/// is made with.
 #[derive(Drop)]
 pub struct Pace {
     beat: u64,

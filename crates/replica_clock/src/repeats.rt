@@ -1,11 +1,13 @@
-//! Decides which of the DOVIEWCHANGEs that a replica repeats are heard: each would cost the node a look at its whole log.
+//! Decides which of the DOVIEWCHANGEs that a replica repeats are heard: each would cost the node a look at its whole
+//! log.
 ghost use Rattle.std.specs.Prelude.{◌≡◌, None};
 ghost use Rattle.replica_clock.specs.Repeats.{asked, handed_on, is_known, passes};
 ghost use Rattle.replica_clock.specs.Repeats.{ANewViewPasses, ARepeatedMessagePasses, RepeatedMessagesAreHeldBack};
 
 use std::marker::Model;
 
-/// How many of one view are held back in a row. One passes now and then, since the first may have come while the node recovered, or found no memory.
+/// How many of one view are held back in a row. One passes now and then, since the first may have come while the node
+/// recovered, or found no memory.
 const HELD_BACK: u64 = 16;
 
 /// What is known of the DOVIEWCHANGEs of one replica.

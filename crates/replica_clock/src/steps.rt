@@ -1,4 +1,5 @@
-//! Decides how a step of a node goes that other threads wait for: a disk that hangs and a long step look alike from outside.
+//! Decides how a step of a node goes that other threads wait for: a disk that hangs and a long step look alike from
+//! outside.
 ghost use Rattle.std.specs.Prelude.{◌≡◌, ◌≤◌, None};
 ghost use Rattle.replica_clock.specs.Clock.{longest};
 ghost use Rattle.replica_clock.specs.Steps.{beaten_at, beats_at, busied, freed, is_seen, lasted_since, progress};
@@ -8,8 +9,8 @@ use crate::pace::Pace;
 use crate::times::Times;
 use std::marker::Model;
 
-/// After how many suspect periods at one step a replica no longer says that it is there: then the others go on without it. A step that long is rarer than
-/// a disk that hangs, and each replica that does so costs a view change.
+/// After how many suspect periods at one step a replica no longer says that it is there: then the others go on without
+/// it. A step that long is rarer than a disk that hangs, and each replica that does so costs a view change.
 const SILENT_AFTER: u64 = 3;
 
 /// How a step of a node goes.
@@ -102,8 +103,9 @@ impl Steps {
         }
     }
 
-    /// Whether a replica whose node is at this step sends its last beat once more at this moment; if so, that counts as done. Only a primary does, since
-    /// only its beats are awaited: what others ask for would be sent to them again and again.
+    /// Whether a replica whose node is at this step sends its last beat once more at this moment; if so, that counts as
+    /// done. Only a primary does, since only its beats are awaited: what others ask for would be sent to them again and
+    /// again.
     pub fn beats_again(&self, leads: bool, pace: &mut Pace, now: u64) -> bool
         ensures beats { result ≡ beats_at leads (progress self.now now) pace.old now }
         ensures beaten { pace.new ≡ beaten_at leads (progress self.now now) pace.old now }
@@ -115,7 +117,8 @@ impl Steps {
     }
 }
 
-/// A step that never ends is told, and a short one isn't: a primary that makes no progress falls silent, and not before.
+/// A step that never ends is told, and a short one isn't: a primary that makes no progress falls silent, and not
+/// before.
 pub fn long_steps_are_told()
     ensures hung { AHungStepIsTold }
     ensures well { AShortStepIsWell }

@@ -2,7 +2,8 @@
 ghost use Rattle.std.specs.Prelude.{◌≡◌, ◌<◌, ◌≤◌, max, min};
 ghost use Rattle.replica_clock.specs.Clock.{longest};
 
-/// The longest time that is taken, 2^40: some twelve days, where the unit is a microsecond. Sums of such times can't overflow.
+/// The longest time that is taken, 2^40: some twelve days, where the unit is a microsecond. Sums of such times can't
+/// overflow.
 const LONGEST: u64 = 1 << 40;
 
 /// The times of a replica, in any unit, the same as that of the moments that its clock is told; each is 1 to 2^40.
@@ -14,8 +15,8 @@ pub struct Times {
 }
 
 impl Times {
-    /// How often a replica sends again what others may have missed, and how long it hears nothing of its primary before it suspects it. What is outside
-    /// 1 to 2^40 counts as the nearer of the two.
+    /// How often a replica sends again what others may have missed, and how long it hears nothing of its primary before
+    /// it suspects it. What is outside 1 to 2^40 counts as the nearer of the two.
     pub fn new(beat: u64, suspect: u64) -> Times
         ensures beat { result.beat ≡ min (max beat 1) longest }
         ensures suspect { result.suspect ≡ min (max suspect 1) longest }

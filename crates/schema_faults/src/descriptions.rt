@@ -378,7 +378,8 @@ fn waiting_for<'a>(word: &'a [u8], form: Form) -> Option<Waiting<'a>>
 
 /// The first piece that is no field's.
 fn field_fault(alloc: Global, lines: Lines, pieces: &[&[u8]]) -> Result<Option<String>, AllocError>
-    ensures { IfOk result (λ o. option_map (λ s. string_bytes s) o ≡ field_fault_from lines None (map (λ x. x.now) pieces.now)) }
+    ensures { IfOk result (λ o. option_map (λ s. string_bytes s) o ≡ field_fault_from lines None
+        (map (λ x. x.now) pieces.now)) }
 {
     let mut waiting = None;
     for piece in pieces {

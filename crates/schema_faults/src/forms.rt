@@ -1,5 +1,5 @@
-//! The keywords of schemas' lines, each with what may follow it and its place in the order (RFC 4512 4.1.1, 4.1.2). Only sentences are
-//! made by this table; which lines are read is the schema reader's matter.
+//! The keywords of schemas' lines, each with what may follow it and its place in the order (RFC 4512 4.1.1, 4.1.2).
+//! Only sentences are made by this table; which lines are read is the schema reader's matter.
 ghost use Rattle.std.specs.Prelude.{◌≡◌, map, option_map};
 ghost use Rattle.std.specs.List.{list_all};
 ghost use Rattle.schema_meaning.specs.schema_text.Words.{is_extension_octet, is_extension_rest, is_extension};

@@ -213,7 +213,8 @@ fn first_no_rule(
     name: &[u8],
     kinds: &[&[u8]],
 ) -> Result<String, AllocError>
-    ensures { IfOk result (λ s. string_bytes s ≡ first_no_rule schema.now type_id name.now (map (λ x. x.now) kinds.now)) }
+    ensures { IfOk result (λ s. string_bytes s ≡ first_no_rule schema.now type_id name.now
+        (map (λ x. x.now) kinds.now)) }
 {
     for kind in kinds {
         if let Some(keyword) = lacking(schema, type_id, kind) {
@@ -241,7 +242,8 @@ fn no_rule_of(
 
 /// A line that names a type that the schema lacks: E13.
 fn no_type(alloc: Global, name: &[u8]) -> Result<String, AllocError>
-    ensures { IfOk result (λ s. string_bytes s ≡ codes "no attribute type '" ++ word_shown name.now ++ codes "' in the schema") }
+    ensures { IfOk result (λ s. string_bytes s ≡ codes "no attribute type '" ++ word_shown name.now ++ codes
+        "' in the schema") }
 {
     let name = shown(alloc, name)?;
     format!(in alloc; "no attribute type '{name}' in the schema")

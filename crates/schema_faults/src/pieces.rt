@@ -1,10 +1,12 @@
-//! A description between its outer parentheses: where it is cut by spaces, and the first octet that has no place in it (RFC 4512 1.4).
+//! A description between its outer parentheses: where it is cut by spaces, and the first octet that has no place in it
+//! (RFC 4512 1.4).
 ghost use Rattle.std.specs.Prelude.{◌≡◌, ◌++◌, ◌<◌, IfOk, IfSome, OnOk, length, map};
 ghost use Rattle.schema_faults.specs.Pieces.{bare_step, quoted_step, escape_step, half_step, step, stop_in, is_outside, is_break, next_of, piece_of, pieces_of};
 
 use std::alloc::{AllocError, Global};
 
-/// Where a reader is: outside a list or in it, in quotes there, and behind a backslash there. The flag tells that a list is open.
+/// Where a reader is: outside a list or in it, in quotes there, and behind a backslash there. The flag tells that a
+/// list is open.
 #[derive(Clone, Copy)]
 pub enum Scan {
     Bare { in_list: bool },
@@ -132,7 +134,8 @@ fn next_of(scan: Scan, octet: u8) -> Scan
 
 /// Adds a piece that has octets.
 fn push_piece<'a>(pieces: &mut Vec<&'a [u8]>, piece: &'a [u8]) -> Result<(), AllocError>
-    ensures { OnOk result (map (λ x. x.now) pieces.new.items ≡ map (λ x. x.now) pieces.old.items ++ piece_of piece.now) }
+    ensures { OnOk result (map (λ x. x.now) pieces.new.items ≡ map (λ x. x.now) pieces.old.items ++ piece_of
+        piece.now) }
 {
     match piece {
         [] => Ok(()),

@@ -92,7 +92,8 @@ fn earlier_oid(
     text: &IndexedText,
     description: &Description,
 ) -> Result<Option<String>, AllocError>
-    ensures { IfOk result (λ o. option_map (λ s. string_bytes s) o ≡ option_map (oid_of_line description.now.oid) (earlier_line text.now description.now.oid description.now.line)) }
+    ensures { IfOk result (λ o. option_map (λ s. string_bytes s) o ≡ option_map (oid_of_line description.now.oid)
+        (earlier_line text.now description.now.oid description.now.line)) }
 {
     let oid = description.oid();
     match earlier_line(text, oid, description.line()) {
@@ -108,7 +109,8 @@ fn earlier_name(
     line: usize,
     names: &[Vec<u8>],
 ) -> Result<Option<String>, AllocError>
-    ensures { IfOk result (λ o. option_map (λ s. string_bytes s) o ≡ earlier_name text.now line (map (λ v. v.items) names.now)) }
+    ensures { IfOk result (λ o. option_map (λ s. string_bytes s) o ≡ earlier_name text.now line
+        (map (λ v. v.items) names.now)) }
 {
     for name in names {
         if let Some(found) = earlier_line(text, name.as_slice(), line) {
@@ -133,7 +135,8 @@ fn number_of(seen: &Seen, octets: &[u8]) -> Option<usize>
 
 /// Puts octets among those that were seen.
 fn put(seen: &mut Seen, octets: Vec<u8>) -> Result<(), AllocError>
-    ensures { OnOk result ((q : List ℕ) → number_at seen.new.entries q ≡ cond (bytes_eq q octets.items) (Some 0) (number_at seen.old.entries q)) }
+    ensures { OnOk result ((q : List ℕ) → number_at seen.new.entries q ≡ cond (bytes_eq q octets.items) (Some 0)
+        (number_at seen.old.entries q)) }
 {
     seen.insert(octets, 0)?;
     Ok(())
@@ -142,7 +145,8 @@ fn put(seen: &mut Seen, octets: Vec<u8>) -> Result<(), AllocError>
 /// Takes a name among those that were seen, and tells whether it was there.
 fn see(alloc: Global, seen: &mut Seen, name: &[u8]) -> Result<bool, AllocError>
     ensures before { IfOk result (λ b. b ≡ is_some (number_at seen.old.entries (map to_ascii_lowercase name.now))) }
-    ensures taken { OnOk result ((q : List ℕ) → number_at seen.new.entries q ≡ cond (bytes_eq q (map to_ascii_lowercase name.now)) (Some 0) (number_at seen.old.entries q)) }
+    ensures taken { OnOk result ((q : List ℕ) → number_at seen.new.entries q ≡
+        cond (bytes_eq q (map to_ascii_lowercase name.now)) (Some 0) (number_at seen.old.entries q)) }
 {
     let folded = lower_case(alloc, name)?;
     let before = number_of(seen, folded.as_slice()).is_some();
@@ -176,7 +180,8 @@ fn given_twice(alloc: Global, name: &[u8]) -> Result<String, AllocError>
 
 /// A name that stands twice in one description.
 fn twice(alloc: Global, description: &Description) -> Result<Option<String>, AllocError>
-    ensures { IfOk result (λ o. option_map (λ s. string_bytes s) o ≡ option_map given_twice (again [] (names_of description.now))) }
+    ensures { IfOk result (λ o. option_map (λ s. string_bytes s) o ≡ option_map given_twice
+        (again [] (names_of description.now))) }
 {
     match again(alloc, names(description))? {
         Some(name) => Ok(Some(given_twice(alloc, name)?)),

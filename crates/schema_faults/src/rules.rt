@@ -36,7 +36,8 @@ fn rule(
 
 /// Adds a rule to a list with commas.
 fn push_listed(list: &mut String, rule: &str) -> Result<(), AllocError>
-    ensures { OnOk result (string_bytes list.new ≡ cond (is_empty (string_bytes list.old)) rule.now (string_bytes list.old ++ codes ", " ++ rule.now)) }
+    ensures { OnOk result (string_bytes list.new ≡ cond (is_empty (string_bytes list.old)) rule.now
+        (string_bytes list.old ++ codes ", " ++ rule.now)) }
 {
     if !list.is_empty() {
         list.push_str(", ")?;
@@ -53,7 +54,8 @@ fn push_rule(
     keyword: Keyword,
     word: &str,
 ) -> Result<(), AllocError>
-    ensures { OnOk result (string_bytes list.new ≡ with_rule (string_bytes list.old) family (rule description.now (place_of keyword) word.now)) }
+    ensures { OnOk result (string_bytes list.new ≡ with_rule (string_bytes list.old) family
+        (rule description.now (place_of keyword) word.now)) }
 {
     if family.is_none() {
         return Ok(());
@@ -133,7 +135,8 @@ fn is_mixed(effect: Effect) -> bool
 
 /// Rules that the syntax in effect isn't one for.
 fn no_use(alloc: Global, description: &Description, effect: Effect) -> Result<String, AllocError>
-    ensures { IfOk result (λ s. string_bytes s ≡ rules description.now effect ++ codes " cannot be used with " ++ rule description.now 8 (codes "SYNTAX")) }
+    ensures { IfOk result (λ s. string_bytes s ≡ rules description.now effect ++ codes " cannot be used with " ++ rule
+        description.now 8 (codes "SYNTAX")) }
 {
     let mut sentence = rules(alloc, description, effect)?;
     let syntax = rule(alloc, description, Keyword::Syntax, "SYNTAX")?;
@@ -144,7 +147,8 @@ fn no_use(alloc: Global, description: &Description, effect: Effect) -> Result<St
 
 /// Rules of more than one family.
 fn mixed(alloc: Global, description: &Description, effect: Effect) -> Result<String, AllocError>
-    ensures { IfOk result (λ s. string_bytes s ≡ codes "rules for different kinds of value: " ++ rules description.now effect) }
+    ensures { IfOk result (λ s. string_bytes s ≡ codes "rules for different kinds of value: " ++ rules description.now
+        effect) }
 {
     let rules = rules(alloc, description, effect)?;
     format!(in alloc; "rules for different kinds of value: {rules}")

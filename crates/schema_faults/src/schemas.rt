@@ -94,7 +94,8 @@ fn bad_class(alloc: Global, text: &IndexedText, line: usize) -> Result<String, A
 
 /// A description that is bad beside the others: E12.
 fn bad_beside(alloc: Global, text: &IndexedText, line: usize) -> Result<String, AllocError>
-    ensures { IfOk result (λ s. string_bytes s ≡ bad_beside text.now (in_line text.now.types line) (in_line text.now.classes line)) }
+    ensures { IfOk result (λ s. string_bytes s ≡ bad_beside text.now (in_line text.now.types line)
+        (in_line text.now.classes line)) }
 {
     match at_line(text.types().all(), line) {
         Some((number, description)) => bad_type(alloc, text, number, description),
@@ -114,7 +115,8 @@ fn unknown_in_class(alloc: Global, text: &IndexedText, line: usize) -> Result<St
 
 /// A line that names what is not there: E13.
 fn unknown_at(alloc: Global, text: &IndexedText, line: usize) -> Result<String, AllocError>
-    ensures { IfOk result (λ s. string_bytes s ≡ unknown_in text.now (in_line text.now.types line) (in_line text.now.classes line)) }
+    ensures { IfOk result (λ s. string_bytes s ≡ unknown_in text.now (in_line text.now.types line)
+        (in_line text.now.classes line)) }
 {
     match at_line(text.types().all(), line) {
         Some((_, description)) => unknown::of_type(alloc, text, description),
@@ -134,7 +136,8 @@ fn class_loop_at(alloc: Global, text: &IndexedText, line: usize) -> Result<Strin
 
 /// A line whose SUP leads back to it: E14.
 fn loop_at(alloc: Global, text: &IndexedText, line: usize) -> Result<String, AllocError>
-    ensures { IfOk result (λ s. IsLoop text.now (in_line text.now.types line) (in_line text.now.classes line) (string_bytes s)) }
+    ensures { IfOk result (λ s. IsLoop text.now (in_line text.now.types line) (in_line text.now.classes line)
+        (string_bytes s)) }
 {
     match at_line(text.types().all(), line) {
         Some((number, _)) => loops::of_type(alloc, text.types(), number),
@@ -152,7 +155,8 @@ fn none_inherited(alloc: Global, title: &str, superior: &[u8]) -> Result<String,
 
 /// A type without EQUALITY.
 fn lacks_equality(alloc: Global, description: &Description) -> Result<String, AllocError>
-    ensures { IfOk result (λ s. string_bytes s ≡ lacks_equality (title description.now) (first_text_at 4 description.now.fields)) }
+    ensures { IfOk result (λ s. string_bytes s ≡ lacks_equality (title description.now)
+        (first_text_at 4 description.now.fields)) }
 {
     let title = title(alloc, description)?;
     match description.text(Keyword::Sup) {
@@ -202,7 +206,8 @@ fn is_no_description(text: &SchemaText, refusal: SchemaRefusal, line: usize) -> 
     }
 }
 
-/// What is wrong with a schema's text in the line that is refused so. The text is read once more, in time that grows as the text.
+/// What is wrong with a schema's text in the line that is refused so. The text is read once more, in time that grows as
+/// the text.
 pub fn schema_fault(
     alloc: Global,
     text: &str,

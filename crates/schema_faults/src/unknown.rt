@@ -47,7 +47,8 @@ fn missing(
 
 /// The first of words that calls none of these.
 fn first_uncalled<'a>(called: &Called, words: &'a [Vec<u8>]) -> Option<&'a [u8]>
-    ensures { option_map (λ x. x.now) result ≡ slice_get (filter (λ word. is_none (find called.now word)) (map (λ v. v.items) words.now)) 0 }
+    ensures { option_map (λ x. x.now) result ≡ slice_get (filter (λ word. is_none (find called.now word))
+        (map (λ v. v.items) words.now)) 0 }
 {
     for word in words {
         if called.find(word.as_slice()).is_none() {
@@ -88,7 +89,8 @@ fn no_ordering(description: &Description) -> Option<&[u8]>
 
 /// The SUBSTR of a type, where there is no such rule.
 fn no_substrings(description: &Description) -> Option<&[u8]>
-    ensures { option_map (λ x. x.now) result ≡ unnamed rules.substrings_family (first_text_at 7 description.now.fields) }
+    ensures { option_map (λ x. x.now) result ≡ unnamed rules.substrings_family
+        (first_text_at 7 description.now.fields) }
 {
     let word = description.text(Keyword::Substr)?;
     match substrings_family(word) {

@@ -20,7 +20,8 @@ fn keep_names(
     names: &[Vec<u8>],
     number: usize,
 ) -> Result<(), AllocError>
-    ensures { OnOk result ((q : List ℕ) → number_at numbers.new.entries q ≡ kept_or (number_at numbers.old.entries q) (has_folded q (map (λ v. v.items) names.now)) number) }
+    ensures { OnOk result ((q : List ℕ) → number_at numbers.new.entries q ≡ kept_or (number_at numbers.old.entries q)
+        (has_folded q (map (λ v. v.items) names.now)) number) }
 {
     for name in names {
         keep(numbers, lower_case(alloc, name.as_slice())?, number)?;
@@ -36,8 +37,10 @@ fn keep_one(
     description: &Description,
     number: usize,
 ) -> Result<(), AllocError>
-    ensures names { OnOk result ((q : List ℕ) → number_at by_name.new.entries q ≡ kept_or (number_at by_name.old.entries q) (has_folded q (naming.names_of description.now)) number) }
-    ensures oids { OnOk result ((q : List ℕ) → number_at by_oid.new.entries q ≡ kept_or (number_at by_oid.old.entries q) (bytes_eq q description.now.oid) number) }
+    ensures names { OnOk result ((q : List ℕ) → number_at by_name.new.entries q ≡
+        kept_or (number_at by_name.old.entries q) (has_folded q (naming.names_of description.now)) number) }
+    ensures oids { OnOk result ((q : List ℕ) → number_at by_oid.new.entries q ≡
+        kept_or (number_at by_oid.old.entries q) (bytes_eq q description.now.oid) number) }
 {
     keep_names(alloc, by_name, names(description), number)?;
     keep(by_oid, Vec::from_slice(alloc, description.oid())?, number)

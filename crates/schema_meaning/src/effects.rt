@@ -167,7 +167,8 @@ fn empty_table(alloc: Global, types: &[Description]) -> Result<Vec<Option<Effect
     vec![in alloc; None; types.len()]
 }
 
-/// What is in effect for each type whose chain of SUPs ends. Types are noted below their superiors, so that nothing new is left.
+/// What is in effect for each type whose chain of SUPs ends. Types are noted below their superiors, so that nothing new
+/// is left.
 fn table_of(
     alloc: Global,
     types: &[Description],
@@ -240,7 +241,8 @@ impl<'a> Effects<'a> {
         effect_at(self.table.as_slice(), number).is_some()
     }
 
-    /// Whether the type of a number is mixed, or has no syntax that its rules are used on though its chain of SUPs ends.
+    /// Whether the type of a number is mixed, or has no syntax that its rules are used on though its chain of SUPs
+    /// ends.
     pub fn is_unfit(&self, number: usize) -> bool
         ensures { result ≡ inheriting.is_unfit self.now number }
     {

@@ -54,7 +54,8 @@ fn bad_type(
 
 /// The line of the first class that has a name or an object identifier of an earlier description.
 fn bad_class(alloc: Global, text: &FirstLines) -> Result<Option<usize>, AllocError>
-    ensures { IfOk result (λ o. o ≡ faults.first_of_all (naming.is_repeated text.now.types text.now.classes) text.now.classes) }
+    ensures { IfOk result (λ o. o ≡ faults.first_of_all (naming.is_repeated text.now.types text.now.classes)
+        text.now.classes) }
 {
     let classes = text.text().classes();
     for description in classes {

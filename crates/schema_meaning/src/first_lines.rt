@@ -31,7 +31,8 @@ fn lower_line(line: usize, other: Option<usize>) -> usize
 
 /// The line becomes that of these octets, unless an earlier one is.
 fn note(lines: &mut Lines, octets: Vec<u8>, line: usize) -> Result<(), AllocError>
-    ensures { OnOk result ((q : List ℕ) → number_at lines.new.entries q ≡ noted (bytes_eq q octets.items) line (number_at lines.old.entries q)) }
+    ensures { OnOk result ((q : List ℕ) → number_at lines.new.entries q ≡ noted (bytes_eq q octets.items) line
+        (number_at lines.old.entries q)) }
 {
     let first = lower_line(line, number_of(lines, octets.as_slice()));
     put(lines, octets, first)?;
@@ -45,7 +46,8 @@ fn note_names(
     names: &[Vec<u8>],
     line: usize,
 ) -> Result<(), AllocError>
-    ensures { OnOk result ((q : List ℕ) → number_at lines.new.entries q ≡ noted (has_folded q (map (λ v. v.items) names.now)) line (number_at lines.old.entries q)) }
+    ensures { OnOk result ((q : List ℕ) → number_at lines.new.entries q ≡
+        noted (has_folded q (map (λ v. v.items) names.now)) line (number_at lines.old.entries q)) }
 {
     for name in names {
         note(lines, lower_case(alloc, name.as_slice())?, line)?;
@@ -60,8 +62,10 @@ fn note_one(
     by_oid: &mut Lines,
     description: &Description,
 ) -> Result<(), AllocError>
-    ensures names { OnOk result ((q : List ℕ) → number_at by_name.new.entries q ≡ noted (has_folded q (naming.names_of description.now)) description.now.line (number_at by_name.old.entries q)) }
-    ensures oids { OnOk result ((q : List ℕ) → number_at by_oid.new.entries q ≡ noted (bytes_eq q description.now.oid) description.now.line (number_at by_oid.old.entries q)) }
+    ensures names { OnOk result ((q : List ℕ) → number_at by_name.new.entries q ≡
+        noted (has_folded q (naming.names_of description.now)) description.now.line (number_at by_name.old.entries q)) }
+    ensures oids { OnOk result ((q : List ℕ) → number_at by_oid.new.entries q ≡ noted (bytes_eq q description.now.oid)
+        description.now.line (number_at by_oid.old.entries q)) }
 {
     note_names(alloc, by_name, names(description), description.line())?;
     note(
@@ -78,8 +82,10 @@ fn note_all(
     by_oid: &mut Lines,
     descriptions: &[Description],
 ) -> Result<(), AllocError>
-    ensures names { OnOk result ((q : List ℕ) → number_at by_name.new.entries q ≡ first_line (λ d. has_folded q (naming.names_of d)) descriptions.now (number_at by_name.old.entries q)) }
-    ensures oids { OnOk result ((q : List ℕ) → number_at by_oid.new.entries q ≡ first_line (λ d. bytes_eq q d.oid) descriptions.now (number_at by_oid.old.entries q)) }
+    ensures names { OnOk result ((q : List ℕ) → number_at by_name.new.entries q ≡
+        first_line (λ d. has_folded q (naming.names_of d)) descriptions.now (number_at by_name.old.entries q)) }
+    ensures oids { OnOk result ((q : List ℕ) → number_at by_oid.new.entries q ≡ first_line (λ d. bytes_eq q d.oid)
+        descriptions.now (number_at by_oid.old.entries q)) }
 {
     for description in descriptions {
         note_one(alloc, by_name, by_oid, description)?;
@@ -104,7 +110,9 @@ fn has_earlier_name(
     names: &[Vec<u8>],
     line: usize,
 ) -> Result<bool, AllocError>
-    ensures { IfOk result (λ b. b ≡ list_any (λ n. is_line_less (number_at lines.now.entries (map to_ascii_lowercase n)) line) (map (λ v. v.items) names.now)) }
+    ensures { IfOk result (λ b. b ≡
+        list_any (λ n. is_line_less (number_at lines.now.entries (map to_ascii_lowercase n)) line)
+        (map (λ v. v.items) names.now)) }
 {
     for name in names {
         let folded = lower_case(alloc, name.as_slice())?;
@@ -122,7 +130,9 @@ fn has_earlier_line(
     by_oid: &Lines,
     description: &Description,
 ) -> Result<bool, AllocError>
-    ensures { IfOk result (λ b. b ≡ (is_line_less (number_at by_oid.now.entries description.now.oid) description.now.line || list_any (λ n. is_line_less (number_at by_name.now.entries (map to_ascii_lowercase n)) description.now.line) (naming.names_of description.now))) }
+    ensures { IfOk result (λ b. b ≡ (is_line_less (number_at by_oid.now.entries description.now.oid)
+        description.now.line || list_any (λ n. is_line_less (number_at by_name.now.entries (map to_ascii_lowercase n))
+        description.now.line) (naming.names_of description.now))) }
 {
     if is_less(number_of(by_oid, description.oid()), description.line()) {
         return Ok(true);
@@ -133,7 +143,8 @@ fn has_earlier_line(
 /// Takes a name among those that were seen, and tells whether it was there.
 fn see(alloc: Global, seen: &mut Lines, name: &[u8]) -> Result<bool, AllocError>
     ensures before { IfOk result (λ b. b ≡ is_some (number_at seen.old.entries (map to_ascii_lowercase name.now))) }
-    ensures taken { OnOk result ((q : List ℕ) → number_at seen.new.entries q ≡ cond (bytes_eq q (map to_ascii_lowercase name.now)) (Some 0) (number_at seen.old.entries q)) }
+    ensures taken { OnOk result ((q : List ℕ) → number_at seen.new.entries q ≡
+        cond (bytes_eq q (map to_ascii_lowercase name.now)) (Some 0) (number_at seen.old.entries q)) }
 {
     let folded = lower_case(alloc, name)?;
     let before = number_of(seen, folded.as_slice()).is_some();
@@ -210,7 +221,8 @@ impl<'a> FirstLines<'a> {
 
     /// Whether the description has an object identifier or a name of an earlier one.
     fn has_earlier(&self, alloc: Global, description: &Description) -> Result<bool, AllocError>
-        ensures { IfOk result (λ b. b ≡ (list_any (naming.is_before description.now) self.now.types || list_any (naming.is_before description.now) self.now.classes)) }
+        ensures { IfOk result (λ b. b ≡ (list_any (naming.is_before description.now) self.now.types || list_any
+            (naming.is_before description.now) self.now.classes)) }
     {
         let earlier = has_earlier_line(alloc, &self.by_name, &self.by_oid, description)?;
         Ok(earlier)

@@ -22,7 +22,8 @@ pub fn number_of(numbers: &Numbers, octets: &[u8]) -> Option<usize>
 
 /// The number becomes that of these octets.
 pub fn put(numbers: &mut Numbers, octets: Vec<u8>, number: usize) -> Result<(), AllocError>
-    ensures { OnOk result ((q : List ℕ) → number_at numbers.new.entries q ≡ cond (bytes_eq q octets.items) (Some number) (number_at numbers.old.entries q)) }
+    ensures { OnOk result ((q : List ℕ) → number_at numbers.new.entries q ≡ cond (bytes_eq q octets.items)
+        (Some number) (number_at numbers.old.entries q)) }
 {
     numbers.insert(octets, number)?;
     Ok(())
@@ -31,7 +32,8 @@ pub fn put(numbers: &mut Numbers, octets: Vec<u8>, number: usize) -> Result<(), 
 /// The number becomes that of these octets, unless they have one.
 #[tactic(auto, using(crate::proofs::Kept::stays, crate::proofs::Kept::comes))]
 pub fn keep(numbers: &mut Numbers, octets: Vec<u8>, number: usize) -> Result<(), AllocError>
-    ensures { OnOk result ((q : List ℕ) → number_at numbers.new.entries q ≡ kept_or (number_at numbers.old.entries q) (bytes_eq q octets.items) number) }
+    ensures { OnOk result ((q : List ℕ) → number_at numbers.new.entries q ≡ kept_or (number_at numbers.old.entries q)
+        (bytes_eq q octets.items) number) }
 {
     match number_of(numbers, octets.as_slice()) {
         Some(_) => Ok(()),

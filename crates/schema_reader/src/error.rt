@@ -9,11 +9,12 @@ use thiserror::Error;
 /// Why a text gives no schema. Lines are counted from 1.
 #[derive(Clone, Copy, Debug, PartialEq, Eq, Error)]
 pub enum SchemaError {
-    /// The line is no description, or one that repeats a name, mixes families of rules, or gives a type no syntax that fits.
+    /// The line is no description, or one that repeats a name, mixes families of rules, or gives a type no syntax that
+    /// fits.
     #[error("E12: line {line} is no description")]
     BadDescription { line: usize },
-    /// The line names a rule, a syntax, a type or a class that is not known; or, behind the last line, the type objectClass or the
-    /// class top is not there.
+    /// The line names a rule, a syntax, a type or a class that is not known; or, behind the last line, the type
+    /// objectClass or the class top is not there.
     #[error("E13: line {line} names what is not known")]
     UnknownName { line: usize },
     /// The first line of a loop of SUPs.

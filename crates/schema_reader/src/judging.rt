@@ -44,8 +44,10 @@ fn without_loops(
     types: &[AttributeType],
     classes: &[ObjectClass],
 ) -> Result<(), SchemaError>
-    ensures fine { IfOk result (λ u. reading.loop_fault text.now (record { types = types.now; classes = classes.now }) ≡ None) }
-    ensures refused { IfErr result (λ e. private_reading.IsFaultOf (reading.loop_fault text.now (record { types = types.now; classes = classes.now })) e) }
+    ensures fine { IfOk result (λ u. reading.loop_fault text.now (record { types = types.now; classes = classes.now })
+        ≡ None) }
+    ensures refused { IfErr result (λ e. private_reading.IsFaultOf
+        (reading.loop_fault text.now (record { types = types.now; classes = classes.now })) e) }
 {
     match loop_line(alloc, text, types, classes)? {
         Some(line) => return Err(SchemaError::LoopInSup { line }),
@@ -63,8 +65,11 @@ fn without_unknown(
     types: &[AttributeType],
     classes: &[ObjectClass],
 ) -> Result<TypeId, SchemaError>
-    ensures fine { IfOk result (λ t. (reading.unknown_of text.now (record { types = types.now; classes = classes.now }) ≡ None) × (reading.required_in (record { types = types.now; classes = classes.now }) ≡ Some t)) }
-    ensures refused { IfErr result (λ e. private_reading.IsUnknown (reading.unknown_of text.now (record { types = types.now; classes = classes.now })) e) }
+    ensures fine { IfOk result
+        (λ t. (reading.unknown_of text.now (record { types = types.now; classes = classes.now }) ≡ None)
+        × (reading.required_in (record { types = types.now; classes = classes.now }) ≡ Some t)) }
+    ensures refused { IfErr result (λ e. private_reading.IsUnknown
+        (reading.unknown_of text.now (record { types = types.now; classes = classes.now })) e) }
 {
     let unknown = unknown_line(text);
     let Some(object_class) = required(types, classes) else {
@@ -84,8 +89,11 @@ pub fn judged(
     types: &[AttributeType],
     classes: &[ObjectClass],
 ) -> Result<TypeId, SchemaError>
-    ensures fine { IfOk result (λ t. (reading.fault_of text.now (record { types = types.now; classes = classes.now }) ≡ None) × (reading.required_in (record { types = types.now; classes = classes.now }) ≡ Some t)) }
-    ensures refused { IfErr result (λ e. private_reading.IsFaultOf (reading.fault_of text.now (record { types = types.now; classes = classes.now })) e) }
+    ensures fine { IfOk result
+        (λ t. (reading.fault_of text.now (record { types = types.now; classes = classes.now }) ≡ None)
+        × (reading.required_in (record { types = types.now; classes = classes.now }) ≡ Some t)) }
+    ensures refused { IfErr result (λ e. private_reading.IsFaultOf
+        (reading.fault_of text.now (record { types = types.now; classes = classes.now })) e) }
 {
     match bad_line(alloc, text)? {
         Some(line) => return Err(SchemaError::BadDescription { line }),

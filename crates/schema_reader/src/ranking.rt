@@ -116,7 +116,8 @@ impl Walk {
         }
     }
 
-    /// Leaves a class. If it leads to none that was entered earlier, those without a rank since then lead to it, and get their rank with it.
+    /// Leaves a class. If it leads to none that was entered earlier, those without a rank since then lead to it, and
+    /// get their rank with it.
     fn leave(&mut self, classes: &[ObjectClass], number: usize, step: usize) {
         let earliest = self.earliest_above(classes, number);
         put(&mut self.earliest, number, earliest);
@@ -135,7 +136,8 @@ fn count_of_steps(classes: &[ObjectClass]) -> usize {
     count
 }
 
-/// Of each class a rank: the number of the step by which a walk up has left the first one of the classes that it leads to and that lead to it.
+/// Of each class a rank: the number of the step by which a walk up has left the first one of the classes that it leads
+/// to and that lead to it.
 pub fn ranks_of(alloc: Global, classes: &[ObjectClass]) -> Result<Vec<usize>, AllocError> {
     let mut walk = Walk::begin(alloc, classes.len())?;
     for before in 0..count_of_steps(classes) {

@@ -22,10 +22,10 @@ pub fn built_in_schema(alloc: Global) -> Result<Schema, AllocError>
     }
 }
 
-/// The schema of a text (RFC 4512 4.1): one description a line behind `attributeTypes: ` or `objectClasses: `; empty lines and
-/// lines that begin with `#` are skipped. The first thing that is wrong is named with its line: the first line that is no
-/// description (E12), else the first that names what is not known (E13), else the first of a loop of SUPs (E14), else the first
-/// type without an EQUALITY rule (E15).
+/// The schema of a text (RFC 4512 4.1): one description a line behind `attributeTypes: ` or `objectClasses: `; empty
+/// lines and lines that begin with `#` are skipped. The first thing that is wrong is named with its line: the first
+/// line that is no description (E12), else the first that names what is not known (E13), else the first of a loop of
+/// SUPs (E14), else the first type without an EQUALITY rule (E15).
 pub fn read_schema(alloc: Global, text: &str) -> Result<Schema, SchemaError>
     ensures found { IfOk result (λ s. schema_of_text text.now ≡ Ok s) }
 

@@ -102,7 +102,8 @@ fn inner_oid(alloc: Global, tokens: &[Token]) -> Result<Option<Vec<u8>>, AllocEr
 
 /// The one text, if there is one.
 fn one(alloc: Global, text: Option<Vec<u8>>) -> Result<Option<Vec<Vec<u8>>>, AllocError>
-    ensures { IfOk result (λ o. option_map (λ v. map (λ x. x.items) v.items) o ≡ arguments.one (option_map (λ v. v.items) text)) }
+    ensures { IfOk result (λ o. option_map (λ v. map (λ x. x.items) v.items) o ≡ arguments.one
+        (option_map (λ v. v.items) text)) }
 {
     let Some(text) = text else {
         return Ok(None);
@@ -114,7 +115,8 @@ fn one(alloc: Global, text: Option<Vec<u8>>) -> Result<Option<Vec<Vec<u8>>>, All
 
 /// The quoted names that the pieces of a list are.
 fn inner_names(alloc: Global, pieces: &[&[Token]]) -> Result<Option<Vec<Vec<u8>>>, AllocError>
-    ensures { IfOk result (λ o. option_map (λ v. map (λ x. x.items) v.items) o ≡ arguments.all_from (arguments.quoted_name true) [] (map (λ x. x.now) pieces.now)) }
+    ensures { IfOk result (λ o. option_map (λ v. map (λ x. x.items) v.items) o ≡ arguments.all_from
+        (arguments.quoted_name true) [] (map (λ x. x.now) pieces.now)) }
 {
     let mut names = Vec::new(alloc);
     for piece in pieces {
@@ -128,7 +130,8 @@ fn inner_names(alloc: Global, pieces: &[&[Token]]) -> Result<Option<Vec<Vec<u8>>
 
 /// The quoted texts that the pieces of a list are.
 fn inner_texts(alloc: Global, pieces: &[&[Token]]) -> Result<Option<Vec<Vec<u8>>>, AllocError>
-    ensures { IfOk result (λ o. option_map (λ v. map (λ x. x.items) v.items) o ≡ arguments.all_from (arguments.quoted_text true) [] (map (λ x. x.now) pieces.now)) }
+    ensures { IfOk result (λ o. option_map (λ v. map (λ x. x.items) v.items) o ≡ arguments.all_from
+        (arguments.quoted_text true) [] (map (λ x. x.now) pieces.now)) }
 {
     let mut texts = Vec::new(alloc);
     for piece in pieces {
@@ -142,7 +145,8 @@ fn inner_texts(alloc: Global, pieces: &[&[Token]]) -> Result<Option<Vec<Vec<u8>>
 
 /// The names and object identifiers that the pieces of a list are.
 fn inner_oids(alloc: Global, pieces: &[&[Token]]) -> Result<Option<Vec<Vec<u8>>>, AllocError>
-    ensures { IfOk result (λ o. option_map (λ v. map (λ x. x.items) v.items) o ≡ arguments.all_from arguments.inner_oid [] (map (λ x. x.now) pieces.now)) }
+    ensures { IfOk result (λ o. option_map (λ v. map (λ x. x.items) v.items) o ≡ arguments.all_from
+        arguments.inner_oid [] (map (λ x. x.now) pieces.now)) }
 {
     let mut oids = Vec::new(alloc);
     for piece in pieces {
@@ -186,7 +190,8 @@ fn oids(alloc: Global, tokens: &[Token]) -> Result<Option<Vec<Vec<u8>>>, AllocEr
 
 /// The object identifier that the tokens are, which a number in braces may follow.
 fn bounded(alloc: Global, tokens: &[Token]) -> Result<Option<Vec<u8>>, AllocError>
-    ensures { IfOk result (λ o. option_map (λ v. v.items) o ≡ option_and_then words.bounded_oid (arguments.word_of tokens.now)) }
+    ensures { IfOk result (λ o. option_map (λ v. v.items) o ≡ option_and_then words.bounded_oid
+        (arguments.word_of tokens.now)) }
 {
     let Some(word) = word(alloc, tokens)? else {
         return Ok(None);
@@ -199,7 +204,8 @@ fn bounded(alloc: Global, tokens: &[Token]) -> Result<Option<Vec<u8>>, AllocErro
 
 /// The word that the tokens are, if it is `userApplications`.
 fn usage(alloc: Global, tokens: &[Token]) -> Result<Option<Vec<u8>>, AllocError>
-    ensures { IfOk result (λ o. option_map (λ v. v.items) o ≡ option_and_then arguments.usage_if (arguments.word_of tokens.now)) }
+    ensures { IfOk result (λ o. option_map (λ v. v.items) o ≡ option_and_then arguments.usage_if
+        (arguments.word_of tokens.now)) }
 {
     let Some(word) = word(alloc, tokens)? else {
         return Ok(None);
@@ -217,7 +223,8 @@ pub fn argument(
     shape: Shape,
     tokens: &[Token],
 ) -> Result<Option<Vec<Vec<u8>>>, AllocError>
-    ensures { IfOk result (λ o. option_map (λ v. map (λ x. x.items) v.items) o ≡ arguments.argument_of shape tokens.now) }
+    ensures { IfOk result (λ o. option_map (λ v. map (λ x. x.items) v.items) o ≡ arguments.argument_of shape
+        tokens.now) }
 {
     match shape {
         Shape::Flag => Ok(None),

@@ -65,7 +65,8 @@ fn fields(
     section: Section,
     pieces: &[&[Token]],
 ) -> Result<Option<Vec<Field>>, AllocError>
-    ensures { IfOk result (λ o. option_map (λ v. v.items) o ≡ descriptions.fields_from section [] None (map (λ x. x.now) pieces.now)) }
+    ensures { IfOk result (λ o. option_map (λ v. v.items) o ≡ descriptions.fields_from section [] None
+        (map (λ x. x.now) pieces.now)) }
 {
     let mut fields = Vec::new(alloc);
     let mut waiting = None;
@@ -117,7 +118,8 @@ fn ordered_fields(
     section: Section,
     pieces: &[&[Token]],
 ) -> Result<Option<Vec<Field>>, AllocError>
-    ensures { IfOk result (λ o. option_map (λ v. v.items) o ≡ descriptions.ordered_fields section (map (λ x. x.now) pieces.now)) }
+    ensures { IfOk result (λ o. option_map (λ v. v.items) o ≡ descriptions.ordered_fields section
+        (map (λ x. x.now) pieces.now)) }
 {
     let Some(fields) = fields(alloc, section, pieces)? else {
         return Ok(None);

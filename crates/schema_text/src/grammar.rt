@@ -4,7 +4,8 @@ ghost use Rattle.schema_text.specs.Grammar.{DescriptionsAreOfOctets};
 ghost use Rattle.schema_text.specs.Lines.{LinesAreOfText};
 ghost use Rattle.schema_text.specs.Spelling.{TokensAreSpelled};
 
-/// The description that is read of octets is the one that they are by the grammar, and what gives none is none by the grammar.
+/// The description that is read of octets is the one that they are by the grammar, and what gives none is none by the
+/// grammar.
 pub fn descriptions_are_of_octets()
     ensures { DescriptionsAreOfOctets }
 {}

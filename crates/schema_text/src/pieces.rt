@@ -95,7 +95,8 @@ fn parts(
 
 /// Those of the parts that are not empty.
 fn filled<'a>(alloc: Global, parts: &[&'a [Token]]) -> Result<Vec<&'a [Token]>, AllocError>
-    ensures { IfOk result (λ v. map (λ x. x.now) v.items ≡ filter arguments.is_some_piece (map (λ x. x.now) parts.now)) }
+    ensures { IfOk result (λ v. map (λ x. x.now) v.items ≡ filter arguments.is_some_piece
+        (map (λ x. x.now) parts.now)) }
 {
     let mut found = Vec::new(alloc);
     for part in parts {
@@ -123,7 +124,8 @@ pub fn alternatives(alloc: Global, tokens: &[Token]) -> Result<Vec<&[Token]>, Al
 
 /// The tokens between quotes.
 pub fn between_quotes(is_inside: bool, tokens: &[Token]) -> Option<&[Token]>
-    ensures { option_map (λ x. x.now) result ≡ arguments.between (marks.is_bare is_inside 39) (marks.is_bare is_inside 39) tokens.now }
+    ensures { option_map (λ x. x.now) result ≡ arguments.between (marks.is_bare is_inside 39)
+        (marks.is_bare is_inside 39) tokens.now }
 {
     match tokens {
         [] => None,

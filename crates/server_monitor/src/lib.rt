@@ -1,8 +1,8 @@
 //! Counts what a server answers, answers monitors over HTTP, and writes what a server says on standard error.
 //!
-//! `counters` counts what the threads of a server answer, `seconds` how long that took, and `start` says how far a start
-//! is: all threads count, and none takes a lock for it. `process_files` and `resident` read what the system says of the
-//! process and of the machine. `monitoring` answers monitors, with pages that it asks of a trait (`PageSource`);
+//! `counters` counts what the threads of a server answer, `seconds` how long that took, and `start` says how far a
+//! start is: all threads count, and none takes a lock for it. `process_files` and `resident` read what the system says
+//! of the process and of the machine. `monitoring` answers monitors, with pages that it asks of a trait (`PageSource`);
 //! `status_page` writes them.
 //!
 //! On standard error an event is a line: `Lines` wait in a queue with a limit, and one thread writes them (`Reporter`).

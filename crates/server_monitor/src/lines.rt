@@ -8,11 +8,12 @@ use std::alloc::{AllocError, Global};
 use std::collections::VecDeque;
 use std::marker::Model;
 
-/// Lines in the order in which they were said, as notes: one for each run of equal lines, at most so many, and one that counts the lines for which
-/// there was no place. No line is lost without being counted.
+/// Lines in the order in which they were said, as notes: one for each run of equal lines, at most so many, and one that
+/// counts the lines for which there was no place. No line is lost without being counted.
 pub struct Lines {
     kept: VecDeque<Note, Global>,
-    /// How many lines were dropped since the last that was kept; 18446744073709551615 stands for any greater number too.
+    /// How many lines were dropped since the last that was kept; 18446744073709551615 stands for any greater number
+    /// too.
     dropped: u64,
     most: usize,
     /// How many lines were dropped in all, for monitors.
@@ -76,7 +77,8 @@ impl Lines {
 
     /// Counts a line with the last note where that has its text; whether it has.
     fn count_again(&mut self, text: &str) -> bool
-        ensures yes { IsTrue result → (before : List NoteValue) × (times : ℕ) × (self.old.notes ≡ before ++ line text.now times ∷ [])
+        ensures yes { IsTrue result → (before : List NoteValue) × (times : ℕ)
+            × (self.old.notes ≡ before ++ line text.now times ∷ [])
             × (self.new ≡ record self.old { notes = before ++ line text.now (one_more times) ∷ [] }) }
         ensures no { IsFalse result → (EndsWith text.now self.old.notes → ⊥) × (self.new ≡ self.old) }
     {

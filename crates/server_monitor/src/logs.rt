@@ -14,7 +14,8 @@ pub struct Logs {
 /// How many notes wait to be written where only what is always told is said: seldom more than a few a second.
 const FEW: usize = 128;
 
-/// How many do where sessions or updates are logged: the busiest replica says no more in the time that the thread that writes rests.
+/// How many do where sessions or updates are logged: the busiest replica says no more in the time that the thread that
+/// writes rests.
 const MANY: usize = 16_384;
 
 impl Logs {

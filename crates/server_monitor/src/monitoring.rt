@@ -189,7 +189,8 @@ impl<'a, R: Wait + Clock, S: PageSource> Monitoring<'a, R, S> {
         }
     }
 
-    /// Answers monitors for a while, without waiting for one, and gives those that are still being answered to the next call.
+    /// Answers monitors for a while, without waiting for one, and gives those that are still being answered to the next
+    /// call.
     pub fn serve_once(&self, listener: &TcpListener, monitors: &mut Monitors) -> io::Result<()> {
         listener.set_nonblocking(true)?;
         match listener.accept() {

@@ -16,8 +16,10 @@ pub enum Note {
 impl Note {
     /// Counts the text once more where it is this note's own; whether it is.
     pub fn count(&mut self, said: &str) -> bool
-        ensures yes { IsTrue result → (times : ℕ) × (note_of self.old ≡ line said.now times) × (note_of self.new ≡ line said.now (one_more times)) }
-        ensures no { IsFalse result → (note_of self.new ≡ note_of self.old) × (IsLineOf said.now (note_of self.old) → ⊥) }
+        ensures yes { IsTrue result → (times : ℕ) × (note_of self.old ≡ line said.now times)
+            × (note_of self.new ≡ line said.now (one_more times)) }
+        ensures no { IsFalse result → (note_of self.new ≡ note_of self.old) × (IsLineOf said.now (note_of self.old) →
+            ⊥) }
     {
         match self {
             Note::Line { text, times } => {

@@ -14,8 +14,8 @@ const STAT: &str = "/proc/self/stat";
 /// How many octets of the second one are read: it has one line of some 400.
 const OCTETS: usize = 1_024;
 
-/// Of the words behind the program's name in parentheses, the ones of the time in the program and in the system, in hundredths of a second, are
-/// these, from 0.
+/// Of the words behind the program's name in parentheses, the ones of the time in the program and in the system, in
+/// hundredths of a second, are these, from 0.
 const USER: usize = 11;
 
 const SYSTEM: usize = 12;

@@ -1,5 +1,5 @@
-//! Writes what a server says on standard error, a line an event: lines wait in a queue with a limit, and one thread writes them. Nobody else ever waits for
-//! whoever reads them, and that thread waits for nobody once the server ends.
+//! Writes what a server says on standard error, a line an event: lines wait in a queue with a limit, and one thread
+//! writes them. Nobody else ever waits for whoever reads them, and that thread waits for nobody once the server ends.
 use crate::lines::Lines;
 use crate::notes::Note;
 use jiff::Timestamp;
@@ -10,14 +10,16 @@ use std::io::Eprint;
 use std::sync::{Condvar, CondvarTimeouts, Mutex, Wait};
 use std::time::{Clock, Duration};
 
-/// How long the thread that writes rests after it has written what waited, in milliseconds. Equal lines that come one after the other meanwhile
-/// are written once, with their number.
+/// How long the thread that writes rests after it has written what waited, in milliseconds. Equal lines that come one
+/// after the other meanwhile are written once, with their number.
 const REST: u64 = 200;
 
-/// How long it is waited for that standard error takes a line, in milliseconds, before it is looked whether the server ends.
+/// How long it is waited for that standard error takes a line, in milliseconds, before it is looked whether the server
+/// ends.
 const WAIT: i32 = 200;
 
-/// How often that is done in vain, once nothing more is said, before what waits is lost: a second, after which the process ends all the same.
+/// How often that is done in vain, once nothing more is said, before what waits is lost: a second, after which the
+/// process ends all the same.
 const FAREWELLS: u32 = 5;
 
 /// The descriptor of standard error.
@@ -38,8 +40,8 @@ pub struct StandardError<'a, R> {
     pub rt: &'a R,
 }
 
-/// Whether standard error takes a line within so many milliseconds without waiting. One that was closed does: a write fails then, and waits for
-/// nobody.
+/// Whether standard error takes a line within so many milliseconds without waiting. One that was closed does: a write
+/// fails then, and waits for nobody.
 pub fn takes_a_line(millis: i32) -> bool {
     let mut asked = [pollfd {
         fd: STANDARD_ERROR,
@@ -69,8 +71,8 @@ struct LockedLines {
     is_stopping: bool,
 }
 
-/// Lines that wait to be written. At most so many runs of equal lines do; a line for which there is no room is counted, and the number is written
-/// where the line would have been.
+/// Lines that wait to be written. At most so many runs of equal lines do; a line for which there is no room is counted,
+/// and the number is written where the line would have been.
 pub struct Reporter {
     held: Mutex<LockedLines>,
     changed: Condvar,
@@ -87,7 +89,8 @@ impl Drop for Reporter {
 }
 
 impl Reporter {
-    /// Nothing was said yet, and so many notes may wait. Lines may be said at once; they are written when a thread writes them.
+    /// Nothing was said yet, and so many notes may wait. Lines may be said at once; they are written when a thread
+    /// writes them.
     pub fn new(alloc: Global, most: usize) -> Result<Reporter, AllocError> {
         let lines = Lines::new(alloc, most)?;
         Ok(Reporter {
@@ -99,8 +102,8 @@ impl Reporter {
         })
     }
 
-    /// Says a line, without its end; one that couldn't be made for want of memory is counted as dropped. It waits for nothing but its own lock,
-    /// which is held for no longer than a few steps, and takes no memory.
+    /// Says a line, without its end; one that couldn't be made for want of memory is counted as dropped. It waits for
+    /// nothing but its own lock, which is held for no longer than a few steps, and takes no memory.
     pub fn say<R: Wait>(&self, rt: &R, line: Result<String, AllocError>) {
         match line {
             Ok(text) => self.held.lock(rt).lines.say(text),
@@ -114,7 +117,8 @@ impl Reporter {
         self.held.lock(rt).lines.dropped_in_all()
     }
 
-    /// Writes what waits, as far as whoever reads takes it at once. It is for a time in which no thread writes what is said.
+    /// Writes what waits, as far as whoever reads takes it at once. It is for a time in which no thread writes what is
+    /// said.
     pub fn write_waiting<R: Wait, W: NoteWriter>(&self, rt: &R, writer: &mut W) {
         let count = self.held.lock(rt).lines.len();
         let _ = self.write_some(rt, writer, count);
@@ -166,8 +170,8 @@ impl Reporter {
         true
     }
 
-    /// Writes what is said, until it is stopped and all of it is written, or nobody has read for a second after that. Nobody waits for whoever reads but
-    /// this thread.
+    /// Writes what is said, until it is stopped and all of it is written, or nobody has read for a second after that.
+    /// Nobody waits for whoever reads but this thread.
     pub fn write_all<R: Wait + Clock, W: NoteWriter>(&self, rt: &R, writer: &mut W) {
         let mut farewells: u32 = 0;
         for _ in rt.forever() {

@@ -1,8 +1,10 @@
-//! How much memory the process has, and the machine, as the system tells it in files (proc(5), cgroups(7)), which are opened by who has the files.
+//! How much memory the process has, and the machine, as the system tells it in files (proc(5), cgroups(7)), which are
+//! opened by who has the files.
 use std::fs::File;
 use std::os::unix::fs::FileExt;
 
-/// How many octets of the file are read that tells what the system knows of the process: its lines on memory are among the first 2,000.
+/// How many octets of the file are read that tells what the system knows of the process: its lines on memory are among
+/// the first 2,000.
 const OCTETS: usize = 4_096;
 
 /// What begins the line of the memory that the process has, in kilobytes of 1,024 octets.
@@ -13,7 +15,8 @@ pub const MACHINE_MEMORY: &str = "/proc/meminfo";
 
 const TOTAL: &[u8] = b"MemTotal:";
 
-/// The file of the memory that the processes of this control group may have together, as a container sees its own: octets, or `max`.
+/// The file of the memory that the processes of this control group may have together, as a container sees its own:
+/// octets, or `max`.
 pub const GROUP_MEMORY: &str = "/sys/fs/cgroup/memory.max";
 
 /// A number further on in decimal digits, by one octet; none, where the octet is no digit.
@@ -80,7 +83,8 @@ fn total_octets(machine: Option<&File>) -> Option<u64> {
     octets_in(room.get(..count)?, TOTAL)
 }
 
-/// How many octets of memory a process may have at most, by these files: the machine's, or fewer that its control group may.
+/// How many octets of memory a process may have at most, by these files: the machine's, or fewer that its control group
+/// may.
 pub fn available_octets(machine: Option<&File>, group: Option<&File>) -> Option<u64> {
     match (total_octets(machine), group_octets(group)) {
         (Some(total), Some(group)) => Some(total.min(group)),

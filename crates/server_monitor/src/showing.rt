@@ -5,7 +5,8 @@ use std::fmt::Write;
 /// How many characters of a text are shown.
 const LIMIT: usize = 512;
 
-/// Adds a character; its octets as a backslash and two hexadecimal digits each, where it would end the line or move the cursor.
+/// Adds a character; its octets as a backslash and two hexadecimal digits each, where it would end the line or move the
+/// cursor.
 fn push_character(line: &mut String, character: char) -> Result<(), AllocError> {
     if character.is_control() {
         for octet in character.encode_utf8(&mut [0; 4]).as_bytes() {

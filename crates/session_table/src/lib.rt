@@ -18,9 +18,9 @@
 //!
 //! Proved: a session hears what its socket gave, and has sent a front of what it had to send, in order
 //! (`PooledSession::hear`, `say`, `queue`). How long a client takes over one message is counted from its beginning
-//! (`PooledSession::hear`, `pause`). It waits where its conversation says (`destination_of`). A place has one session at a
-//! time, which comes back as it is (`Table::park`, `queue`, `wake`); it is free once that has ended (`end`). Each lines
-//! up in the class of what it owes at that moment, and seats take the one whose turn it is (`next_ready`). What a
+//! (`PooledSession::hear`, `pause`). It waits where its conversation says (`destination_of`). A place has one session
+//! at a time, which comes back as it is (`Table::park`, `queue`, `wake`); it is free once that has ended (`end`). Each
+//! lines up in the class of what it owes at that moment, and seats take the one whose turn it is (`next_ready`). What a
 //! session owes changes by `PooledSession::charge` alone. What is told of a client reaches the thread and the session
 //! whose token it was told by (`note`). A client's end is told once (`gone`).
 #![tactic(auto)]

@@ -8,8 +8,8 @@ use std::sync::atomic::{AtomicU64, Ordering};
 /// A mebibyte.
 const MIB: u64 = 1_048_576;
 
-/// The limit where none is asked for: an eighth of the machine's memory between these, so that a small machine serves and a large one keeps its
-/// memory for the directory.
+/// The limit where none is asked for: an eighth of the machine's memory between these, so that a small machine serves
+/// and a large one keeps its memory for the directory.
 const LEAST: u64 = 67_108_864;
 
 const MOST: u64 = 1_073_741_824;
@@ -22,7 +22,8 @@ pub struct Budget {
     ended: AtomicU64,
 }
 
-/// How many octets clients may take together, where so many MiB are asked for, on a machine of so many octets: at most a quarter of them.
+/// How many octets clients may take together, where so many MiB are asked for, on a machine of so many octets: at most
+/// a quarter of them.
 pub fn limit_of(asked: Option<u64>, machine: Option<u64>) -> u64
     ensures { result ≡ limit_of asked machine }
 {
@@ -64,7 +65,8 @@ impl Budget {
         self.ended.load(Ordering::Relaxed)
     }
 
-    /// A session holds this, of which so much is posted: the sum changes by the difference. It is left alone where there is none.
+    /// A session holds this, of which so much is posted: the sum changes by the difference. It is left alone where
+    /// there is none.
     pub fn post(&self, posted: u64, held: u64) {
         match change_to(posted, held) {
             BudgetChange::Stays => {}

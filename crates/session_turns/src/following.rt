@@ -3,10 +3,12 @@ ghost use Rattle.std.specs.Prelude.{◌≡◌, ◌↔◌};
 ghost use Rattle.session_turns.specs.Following.{IsUnseen, IsOver};
 ghost use Rattle.session_turns.specs.declared.following.After.{After};
 
-/// How many microseconds after a look the next one is due, where nobody waits for sockets: a message that came meanwhile waits so long.
+/// How many microseconds after a look the next one is due, where nobody waits for sockets: a message that came
+/// meanwhile waits so long.
 const LOOK: u64 = 1_000;
 
-/// After how many microseconds a stay ends, where others are ready: a stay costs a write and two calls of the poll, some 10.
+/// After how many microseconds a stay ends, where others are ready: a stay costs a write and two calls of the poll,
+/// some 10.
 const STAY: u64 = 1_000;
 
 /// What a seat does behind a message.

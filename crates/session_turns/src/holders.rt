@@ -117,8 +117,8 @@ impl Holders {
         if rank > least { Some(rank) } else { None }
     }
 
-    /// The place whose session is to be ended where one that holds this wants more: an anonymous one before the manager's, and of alike ones the
-    /// one that holds most. None, where that is the one that wants more.
+    /// The place whose session is to be ended where one that holds this wants more: an anonymous one before the
+    /// manager's, and of alike ones the one that holds most. None, where that is the one that wants more.
     pub fn rather(&self, own: Holder) -> Option<usize>
         ensures some { IfSome result (IsRather self.now own) }
         ensures none { IfNone result (NoneRather self.now own) }

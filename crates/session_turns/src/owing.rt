@@ -78,7 +78,8 @@ impl Debt {
     }
 }
 
-/// A session that takes at most a 64th of a seat's time, and 5 ms at once, stays of the first class: a law on the definitions, so its body is empty.
+/// A session that takes at most a 64th of a seat's time, and 5 ms at once, stays of the first class: a law on the
+/// definitions, so its body is empty.
 pub fn small_shares_stay_first()
     ensures { SmallSharesStayFirst }
 {}

@@ -28,7 +28,8 @@ pub fn change_to(posted: u64, held: u64) -> BudgetChange
     }
 }
 
-/// Whatever sessions come to hold, the sum is what is posted of all of them: a law on the definitions, so its body is empty.
+/// Whatever sessions come to hold, the sum is what is posted of all of them: a law on the definitions, so its body is
+/// empty.
 pub fn used_is_posted()
     ensures { UsedIsPosted }
 {}

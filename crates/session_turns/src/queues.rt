@@ -65,7 +65,8 @@ impl Queues {
 
     /// What has stood in a queue since this turn stands there no more.
     pub fn remove(&mut self, queue: Queue, turn: u64)
-        ensures { (q : Queue) (t : ℕ) → place_at self.new q t ≡ cond (is_queue queue q && nat_eq turn t) None (place_at self.old q t) }
+        ensures { (q : Queue) (t : ℕ) → place_at self.new q t ≡ cond (is_queue queue q && nat_eq turn t) None
+            (place_at self.old q t) }
     {
         match queue {
             Queue::Silent => self.silent.remove(&turn),

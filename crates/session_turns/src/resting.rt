@@ -107,7 +107,8 @@ impl Lead {
         self.is_led
     }
 
-    /// A seat that serves a session is to look which sockets are ready; whether it may. Where it may, it says when that ends.
+    /// A seat that serves a session is to look which sockets are ready; whether it may. Where it may, it says when that
+    /// ends.
     pub fn begin_look(&mut self) -> bool
         ensures may { IsTrue result ↔ (self.old.is_led ≡ false) }
         ensures begun { self.new ≡ begun self.old }
@@ -207,7 +208,8 @@ impl Lead {
     }
 }
 
-/// Whatever threads do, while seats rest one waits for sockets or is called: a law on the definitions, so its body is empty.
+/// Whatever threads do, while seats rest one waits for sockets or is called: a law on the definitions, so its body is
+/// empty.
 pub fn who_rests_is_watched()
     ensures { WhoRestsIsWatched }
 {}

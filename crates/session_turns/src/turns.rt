@@ -1,4 +1,5 @@
-//! Decides whose turn at a seat it is: the first of the least class, and each eighth time who has waited longest of all.
+//! Decides whose turn at a seat it is: the first of the least class, and each eighth time who has waited longest of
+//! all.
 ghost use Rattle.std.specs.Prelude.{◌≡◌, ◌<◌, IfOk, IfNone};
 ghost use Rattle.session_turns.specs.Turning.{how_many, nobody, lined_up, next_place, taken, EachIsTakenInTime, FirstOnesAreTakenSoon};
 ghost use Rattle.session_turns.specs.declared.owing.Class.{Class};

@@ -11,7 +11,8 @@ use crate::tree::found;
 use std::cmp::Ordering;
 use std::marker::Model;
 
-/// A map that is asked about many keys. Keys that stand near each other cost one way down for each leaf. Contracts see the map's entries.
+/// A map that is asked about many keys. Keys that stand near each other cost one way down for each leaf. Contracts see
+/// the map's entries.
 #[derive(Drop)]
 pub struct Cursor<'a, K: Ord, V> {
     map: &'a SharedMap<K, V>,

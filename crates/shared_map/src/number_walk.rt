@@ -5,8 +5,8 @@ ghost use Rattle.shared_map.specs.Ahead.{ahead};
 use crate::numbers::NumberSet;
 use std::marker::Model;
 
-/// A walk over a set. Contracts see the numbers that it still has to give. Its next number is at hand; those that follow are in a run of
-/// the set, so that a step is a few instructions.
+/// A walk over a set. Contracts see the numbers that it still has to give. Its next number is at hand; those that
+/// follow are in a run of the set, so that a step is a few instructions.
 pub struct NumberWalk<'a> {
     set: &'a NumberSet,
     first: Option<u64>,
@@ -114,7 +114,8 @@ impl<'a> NumberWalk<'a> {
         }
     }
 
-    /// Goes forward to the first number that is at least this one. Where the run at hand ends below it, that is a look-up.
+    /// Goes forward to the first number that is at least this one. Where the run at hand ends below it, that is a
+    /// look-up.
     pub fn seek(&mut self, least: u64)
         ensures { self.new ≡ filter (nat_le least) self.old }
     {

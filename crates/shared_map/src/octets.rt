@@ -74,7 +74,8 @@ impl Octets {
         })
     }
 
-    /// The octets of a vector. Short ones are copied into the value and the vector is dropped; a longer one is kept without its spare room.
+    /// The octets of a vector. Short ones are copied into the value and the vector is dropped; a longer one is kept
+    /// without its spare room.
     pub fn from_vec(alloc: Global, mut octets: Vec<u8>) -> Result<Octets, AllocError>
         ensures { IfOk result (λ o. o ≡ octets.items) }
     {

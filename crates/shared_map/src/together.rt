@@ -75,7 +75,8 @@ pub fn find_each<'a, K: Ord + Drop, V: Drop, Q: Sought<K> + Copy + Drop>(
     tree: &'a Tree<K, V>,
     sought: &[Q],
 ) -> Result<Vec<Option<&'a V>>, AllocError>
-    ensures { IfOk result (λ v. map option_copied v.items ≡ map (λ q. lookup (is_at (K.cmp (Q.key q))) tree.now.0) sought.now) }
+    ensures { IfOk result (λ v. map option_copied v.items ≡ map (λ q. lookup (is_at (K.cmp (Q.key q))) tree.now.0)
+        sought.now) }
 {
     let mut ways = ways_to(alloc, tree, sought)?;
     for _level in 0..tree.height() {

@@ -70,7 +70,8 @@ fn push_labelled(
     key: &str,
     sample: Labelled,
 ) -> Result<(), AllocError>
-    ensures { OnOk result (string_bytes samples.new ≡ string_bytes samples.old ++ labelled_sample name.now key.now sample) }
+    ensures { OnOk result (string_bytes samples.new ≡ string_bytes samples.old ++ labelled_sample name.now key.now
+        sample) }
 {
     let line = labelled_sample(alloc, name, key, sample)?;
     samples.push_str(line.as_str())
@@ -116,7 +117,8 @@ pub fn optional_scaled(
     number: Option<u64>,
     exponent: &str,
 ) -> Result<String, AllocError>
-    ensures { IfOk result (λ s. string_bytes s ≡ figure name.now help.now kind.now (optional_scaled_sample name.now number exponent.now)) }
+    ensures { IfOk result (λ s. string_bytes s ≡ figure name.now help.now kind.now (optional_scaled_sample name.now
+        number exponent.now)) }
 {
     match number {
         Some(number) => {
@@ -167,7 +169,8 @@ fn push_bucket(
     front: &str,
     bucket: Bucket,
 ) -> Result<(), AllocError>
-    ensures { OnOk result (string_bytes samples.new ≡ string_bytes samples.old ++ bucket_sample name.now front.now bucket) }
+    ensures { OnOk result (string_bytes samples.new ≡ string_bytes samples.old ++ bucket_sample name.now front.now
+        bucket) }
 {
     let line = bucket_sample(alloc, name, front, bucket)?;
     samples.push_str(line.as_str())
@@ -191,7 +194,8 @@ fn bucket_samples(
 
 /// The sum of a histogram.
 fn sum_sample(alloc: Global, name: &str, labels: &str, micros: u64) -> Result<String, AllocError>
-    ensures { IfOk result (λ s. string_bytes s ≡ scaled_sample (name.now ++ codes "_sum" ++ labels.now) micros (codes "e-6")) }
+    ensures { IfOk result (λ s. string_bytes s ≡ scaled_sample (name.now ++ codes "_sum" ++ labels.now) micros
+        (codes "e-6")) }
 {
     let of_sum = format!(in alloc; "{name}_sum{labels}")?;
     scaled_sample(alloc, &of_sum, micros, "e-6")

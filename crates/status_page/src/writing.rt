@@ -166,7 +166,8 @@ fn sizes(alloc: Global, figures: &Figures) -> Result<String, AllocError>
 
 /// The replica's state, what it does and how much it keeps, in the text form that Prometheus reads.
 fn stated(alloc: Global, version: &str, figures: &Figures) -> Result<String, AllocError>
-    ensures { IfOk result (λ s. string_bytes s ≡ state_text version.now figures.now ++ replica_text figures.now ++ sizes_text figures.now) }
+    ensures { IfOk result (λ s. string_bytes s ≡ state_text version.now figures.now ++ replica_text
+        figures.now ++ sizes_text figures.now) }
 {
     let state = state(alloc, version, figures)?;
     let replica = replica(alloc, figures)?;

@@ -1,4 +1,5 @@
-//! Texts of filters (RFC 4515 3): what was expected at the octet where no filter's text goes on. All before it begins a filter.
+//! Texts of filters (RFC 4515 3): what was expected at the octet where no filter's text goes on. All before it begins a
+//! filter.
 ghost use Rattle.std.specs.Prelude.{◌≡◌, ◌++◌, ◌-◌, ◌∷◌, [], IfOk, OnOk, drop, length, nat_eq, slice_get, string_bytes, take};
 ghost use Rattle.std.specs.List.{list_any, position};
 ghost use Rattle.text_faults.specs.Filters.{place_after, around_after, place_behind, around_behind, wanted_behind, missing_digits};

@@ -1,10 +1,11 @@
 //! Explains why a filter, a name or a line of a lab script is refused, and what a result code says.
 //!
-//! What is refused is decided by others; here it is put into words: `filters`, `names`, `scripts`, `codes`. `showing` prints a word of a
-//! text within a sentence, and `fronts` finds the word that a line begins with. `schema_faults` and `ldif_faults` use them too.
+//! What is refused is decided by others; here it is put into words: `filters`, `names`, `scripts`, `codes`. `showing`
+//! prints a word of a text within a sentence, and `fronts` finds the word that a line begins with. `schema_faults` and
+//! `ldif_faults` use them too.
 //!
-//! Proved: each sentence is its definition (`code_word`, `filter_fault`, `name_fault`, `script_fault`), and so is a word as a sentence
-//! shows it (`shown`). Where the cause isn't found, the sentence says less.
+//! Proved: each sentence is its definition (`code_word`, `filter_fault`, `name_fault`, `script_fault`), and so is a
+//! word as a sentence shows it (`shown`). Where the cause isn't found, the sentence says less.
 #![tactic(auto)]
 
 mod codes;

@@ -1,4 +1,5 @@
-//! Texts of distinguished names (RFC 4514 3): which part is no name's, and why. Whether a part is one is asked of the reader of names.
+//! Texts of distinguished names (RFC 4514 3): which part is no name's, and why. Whether a part is one is asked of the
+//! reader of names.
 ghost use Rattle.std.specs.Prelude.{◌≡◌, ◌++◌, ◌∷◌, [], IfOk, OnOk, codes, is_none, is_some, map, nat_eq, option_map, string_bytes};
 ghost use Rattle.std.specs.List.{position};
 ghost use Rattle.ldap_match.specs.ldap_dn.Texts.{name_of_text, step as reader_step, tokens_of};
@@ -229,7 +230,8 @@ fn no_value(
 
 /// An octet of a value that no backslash escapes.
 fn unescaped(alloc: Global, octet: u8) -> Result<String, AllocError>
-    ensures { IfOk result (λ s. string_bytes s ≡ codes "the '" ++ octet_shown octet ++ codes "' in a value comes behind a backslash") }
+    ensures { IfOk result (λ s. string_bytes s ≡ codes "the '" ++ octet_shown octet ++ codes
+        "' in a value comes behind a backslash") }
 {
     let octet = octet_shown(alloc, octet)?;
     format!(in alloc; "the '{octet}' in a value comes behind a backslash")
@@ -260,7 +262,8 @@ fn bad_value(
 #[tactic(auto, using(std::proofs::Common::append_assoc))]
 /// A pair that names no type of the schema.
 fn no_type(alloc: Global, pair: &[u8], name: &[u8]) -> Result<String, AllocError>
-    ensures { IfOk result (λ s. string_bytes s ≡ codes "no attribute type '" ++ word_shown name.now ++ codes "' (in '" ++ word_shown (trimmed pair.now) ++ codes "')") }
+    ensures { IfOk result (λ s. string_bytes s ≡ codes "no attribute type '" ++ word_shown name.now ++ codes
+        "' (in '" ++ word_shown (trimmed pair.now) ++ codes "')") }
 {
     let whole = shown(alloc, trimmed(pair))?;
     let name = shown(alloc, name)?;
@@ -285,7 +288,8 @@ fn bad_named(
 
 /// A pair without a '='.
 fn no_pair(alloc: Global, pair: &[u8]) -> Result<String, AllocError>
-    ensures { IfOk result (λ s. string_bytes s ≡ codes "expected 'type=value', found '" ++ word_shown (trimmed pair.now) ++ codes "'") }
+    ensures { IfOk result (λ s. string_bytes s ≡ codes "expected 'type=value', found '" ++ word_shown
+        (trimmed pair.now) ++ codes "'") }
 {
     let whole = shown(alloc, trimmed(pair))?;
     format!(in alloc; "expected 'type=value', found '{whole}'")
@@ -300,7 +304,8 @@ fn equals_in(pair: &[u8]) -> Option<usize>
 
 /// A pair whose escapes are right.
 fn bad_cut(alloc: Global, schema: &Schema, pair: &[u8]) -> Result<String, AllocError>
-    ensures { IfOk result (λ s. string_bytes s ≡ bad_cut schema.now pair.now (position (λ octet. nat_eq octet 61) pair.now)) }
+    ensures { IfOk result (λ s. string_bytes s ≡ bad_cut schema.now pair.now (position (λ octet. nat_eq octet 61)
+        pair.now)) }
 {
     match equals_in(pair) {
         None => no_pair(alloc, pair),
@@ -313,7 +318,8 @@ fn bad_cut(alloc: Global, schema: &Schema, pair: &[u8]) -> Result<String, AllocE
 
 /// A pair with a backslash that begins no escape.
 fn bad_escape(alloc: Global, pair: &[u8]) -> Result<String, AllocError>
-    ensures { IfOk result (λ s. string_bytes s ≡ codes "a backslash in '" ++ word_shown (trimmed pair.now) ++ codes "' has no mark and no two hexadecimal digits behind it") }
+    ensures { IfOk result (λ s. string_bytes s ≡ codes "a backslash in '" ++ word_shown (trimmed pair.now) ++ codes
+        "' has no mark and no two hexadecimal digits behind it") }
 {
     let whole = shown(alloc, trimmed(pair))?;
     format!(in alloc;
@@ -336,7 +342,8 @@ fn bad_pair(alloc: Global, schema: &Schema, pair: &[u8]) -> Result<String, Alloc
 
 /// A relative name whose pairs are right.
 fn twice(alloc: Global, rdn: &[u8]) -> Result<String, AllocError>
-    ensures { IfOk result (λ s. string_bytes s ≡ codes "a type comes twice in '" ++ word_shown (trimmed rdn.now) ++ codes "'") }
+    ensures { IfOk result (λ s. string_bytes s ≡ codes "a type comes twice in '" ++ word_shown
+        (trimmed rdn.now) ++ codes "'") }
 {
     let whole = shown(alloc, trimmed(rdn))?;
     format!(in alloc; "a type comes twice in '{whole}'")
@@ -363,7 +370,8 @@ fn no_name(alloc: Global, text: &[u8]) -> Result<String, AllocError>
 
 /// A text that isn't blank.
 fn bad_name(alloc: Global, schema: &Schema, text: &[u8]) -> Result<String, AllocError>
-    ensures { IfOk result (λ s. string_bytes s ≡ bad_name_by schema.now text.now (first_wrong schema.now (parts_of 44 text.now))) }
+    ensures { IfOk result (λ s. string_bytes s ≡ bad_name_by schema.now text.now
+        (first_wrong schema.now (parts_of 44 text.now))) }
 {
     let rdns = parts(alloc, text, b',')?;
     match first_wrong(alloc, schema, rdns.as_slice())? {

@@ -32,7 +32,8 @@ fn form_of(word: &[u8]) -> Option<&'static str>
 
 /// As `form_of`, of the later words.
 fn later_form(word: &[u8]) -> Option<&'static str>
-    ensures { MatchOption result (form_of later_forms word.now ≡ None) (λ form. form_of later_forms word.now ≡ Some form.now) }
+    ensures { MatchOption result (form_of later_forms word.now ≡ None) (λ form. form_of later_forms word.now ≡
+        Some form.now) }
 {
     if word == b"beat".as_slice() {
         return Some("'beat R', with a replica");

@@ -40,7 +40,8 @@ fn push_character(sentence: &mut String, character: char) -> Result<(), AllocErr
 
 /// Adds characters, one behind the other.
 fn push_characters(sentence: &mut String, characters: &[char]) -> Result<(), AllocError>
-    ensures { OnOk result (string_bytes sentence.new ≡ string_bytes sentence.old ++ flat_map character_shown characters.now) }
+    ensures { OnOk result (string_bytes sentence.new ≡ string_bytes sentence.old ++ flat_map character_shown
+        characters.now) }
 {
     for character in characters {
         push_character(sentence, *character)?;
@@ -57,7 +58,8 @@ fn first_characters(alloc: Global, text: &str) -> Result<Vec<char>, AllocError>
 
 /// Adds characters, or the first of them and two dots.
 fn push_cut_characters(sentence: &mut String, characters: &[char]) -> Result<(), AllocError>
-    ensures { OnOk result (string_bytes sentence.new ≡ string_bytes sentence.old ++ cut character_shown characters.now) }
+    ensures { OnOk result (string_bytes sentence.new ≡ string_bytes sentence.old ++ cut character_shown
+        characters.now) }
 {
     if characters.len() <= LIMIT {
         return push_characters(sentence, characters);
@@ -80,7 +82,8 @@ fn push_octet(sentence: &mut String, octet: u8) -> Result<(), AllocError>
 
 /// Adds octets of what is no text, one behind the other.
 fn push_octets(sentence: &mut String, octets: &[u8]) -> Result<(), AllocError>
-    ensures { OnOk result (string_bytes sentence.new ≡ string_bytes sentence.old ++ flat_map raw_octet_shown octets.now) }
+    ensures { OnOk result (string_bytes sentence.new ≡ string_bytes sentence.old ++ flat_map raw_octet_shown
+        octets.now) }
 {
     for octet in octets {
         push_octet(sentence, *octet)?;
@@ -131,7 +134,8 @@ pub fn shown(alloc: Global, octets: &[u8]) -> Result<String, AllocError>
     }
 }
 
-/// An octet of a text as it is shown in a sentence: itself, or a backslash and two hexadecimal digits where it is no ASCII that prints.
+/// An octet of a text as it is shown in a sentence: itself, or a backslash and two hexadecimal digits where it is no
+/// ASCII that prints.
 pub fn octet_shown(alloc: Global, octet: u8) -> Result<String, AllocError>
     ensures { IfOk result (λ s. string_bytes s ≡ octet_shown octet) }
 {

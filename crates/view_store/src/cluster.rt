@@ -29,7 +29,8 @@ impl Model for Cluster {
 impl Cluster {
     /// The cluster of this number; none for 0 and for a number over 281474976710655.
     pub fn new(number: u64) -> Option<Cluster>
-        ensures { MatchOption result ((number ≡ 0) ⊎ (2 ^ 48 ≤ number)) (λ cluster. (cluster ≡ number) × IsCluster number) }
+        ensures { MatchOption result ((number ≡ 0) ⊎ (2 ^ 48 ≤ number)) (λ cluster. (cluster ≡ number)
+            × IsCluster number) }
     {
         if number == 0 || number > MAX_CLUSTER {
             return None;

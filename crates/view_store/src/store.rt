@@ -48,8 +48,8 @@ impl<D: Device> Model for ViewStore<D> {
 impl<D: Device> ViewStore<D> {
     ghost use Rattle.view_store.specs.declared.state.Status.TheVariants as status;
 
-    /// A store of a cluster's pair over a device, which is not called. It can be used once `format` or `load` has answered
-    /// Ok.
+    /// A store of a cluster's pair over a device, which is not called. It can be used once `format` or `load` has
+    /// answered Ok.
     pub fn new(device: D, cluster: Cluster) -> Self
         ensures device { result.device ≡ device }
         ensures cluster { result.cluster ≡ cluster }
@@ -74,13 +74,14 @@ impl<D: Device> ViewStore<D> {
         device
     }
 
-    /// Stores a pair in the place of the former one, which may be of an earlier version; the new one names the cluster. A
-    /// crash at any moment of the call leaves one of the two; once it has answered Ok, the new one. After E21 every
+    /// Stores a pair in the place of the former one, which may be of an earlier version; the new one names the cluster.
+    /// A crash at any moment of the call leaves one of the two; once it has answered Ok, the new one. After E21 every
     /// further call answers `Failed`.
     pub fn store(&mut self, pair: Pair) -> Result<(), ViewStoreError>
         ensures stored { OnOk result (found self.old.cluster (D.seen self.new.device) ≡ own pair) }
 
-        // The slot that is taken then names the cluster and says whether there is a journal; its sequence is the next one.
+        // The slot that is taken then names the cluster and says whether there is a journal; its sequence is the next
+        // one.
         ensures version { OnOk result (taken_from (D.seen self.new.device) ≡ Some (record {
           sequence = sequence_of (taken_from (D.seen self.old.device)) + 1;
           cluster = Some self.old.cluster;
@@ -92,27 +93,32 @@ impl<D: Device> ViewStore<D> {
 
         ensures placed { OnOk result (IsWellPlaced (D.seen self.old.device) → IsWellPlaced (D.seen self.new.device)) }
 
-        // A crash at any moment of the call leaves the former pair or the new one, over an image that `format` and stores
-        // left, whole or stopped.
+        // A crash at any moment of the call leaves the former pair or the new one, over an image that `format` and
+        // stores left, whole or stopped.
         ensures any_moment { self.old.status ≡ status.Ready → IsWellPlaced (D.seen self.old.device)
             → LeavesOnly D.moment D.left_since self.old.device self.new.device
             (IsFormerOrNew self.old.cluster (found self.old.cluster (D.seen self.old.device)) pair) }
 
-        // So does a stop without a crash: after E21 the device gives the former pair or the new one, as `format` and stores
-        // leave it, to the store that is made over it anew.
+        // So does a stop without a crash: after E21 the device gives the former pair or the new one, as `format` and
+        // stores leave it, to the store that is made over it anew.
         ensures stopped { IsErrOf result ViewStoreError.DeviceFailed → IsWellPlaced (D.seen self.old.device)
-            → IsFormerOrNew self.old.cluster (found self.old.cluster (D.seen self.old.device)) pair (D.seen self.new.device) }
+            → IsFormerOrNew self.old.cluster (found self.old.cluster (D.seen self.old.device)) pair
+            (D.seen self.new.device) }
 
         // E21 only where the device failed, and then the store has failed; before that it was ready.
-        ensures device_failed { IsErrOf result ViewStoreError.DeviceFailed → HasRisen (D.failure_count self.old.device) (D.failure_count self.new.device)
+        ensures device_failed { IsErrOf result ViewStoreError.DeviceFailed →
+            HasRisen (D.failure_count self.old.device) (D.failure_count self.new.device)
             × (self.old.status ≡ status.Ready) × (self.new.status ≡ status.Failed) }
 
         // E22 exactly where the store isn't ready yet, or a number is past the greatest; nothing is written.
-        ensures no_pair { IsErrOf result ViewStoreError.NoPair ↔ (self.old.status ≡ status.New) ⊎ ((self.old.status ≡ status.Ready)
-            × ((2 ^ 63 ≤ pair.view) ⊎ (2 ^ 63 ≤ pair.restarts) ⊎ (2 ^ 63 ≤ sequence_of (taken_from (D.seen self.old.device)) + 1))) }
+        ensures no_pair { IsErrOf result ViewStoreError.NoPair ↔ (self.old.status ≡ status.New)
+            ⊎ ((self.old.status ≡ status.Ready)
+            × ((2 ^ 63 ≤ pair.view) ⊎ (2 ^ 63 ≤ pair.restarts)
+            ⊎ (2 ^ 63 ≤ sequence_of (taken_from (D.seen self.old.device)) + 1))) }
         ensures no_pair_same { IsErrOf result ViewStoreError.NoPair → self.new ≡ self.old }
 
-        // Never E23: where another cluster's pair is found, the store isn't ready. Nor E25: what is stored is the caller's to say.
+        // Never E23: where another cluster's pair is found, the store isn't ready. Nor E25: what is stored is the
+        // caller's to say.
         ensures foreign_cluster { IsErrOf result ViewStoreError.ForeignCluster → ⊥ }
         ensures keeps_journal { IsErrOf result ViewStoreError.KeepsJournal → ⊥ }
 
@@ -140,8 +146,8 @@ impl<D: Device> ViewStore<D> {
         }
     }
 
-    /// The pair that the device holds for the cluster: of the first version, or one that names it. A crash after it leaves
-    /// that pair.
+    /// The pair that the device holds for the cluster: of the first version, or one that names it. A crash after it
+    /// leaves that pair.
     pub fn load(&mut self) -> Result<Pair, ViewStoreError>
         ensures found { IfOk result (λ pair. found self.old.cluster (D.seen self.old.device) ≡ own pair) }
         ensures durable { OnOk result (Only (D.seen self.old.device) (D.may_leave self.new.device)) }
@@ -166,7 +172,8 @@ impl<D: Device> ViewStore<D> {
 
         // E21 only where the device failed, and then the store has failed.
         ensures device_failed { IsErrOf result ViewStoreError.DeviceFailed
-            → HasRisen (D.failure_count self.old.device) (D.failure_count self.new.device) × (self.new.status ≡ status.Failed) }
+            → HasRisen (D.failure_count self.old.device) (D.failure_count self.new.device)
+            × (self.new.status ≡ status.Failed) }
         ensures counted { D.failure_count self.old.device ≤ D.failure_count self.new.device }
 
         // A store that has failed answers so, and calls no device.
@@ -220,7 +227,8 @@ impl<D: Device> ViewStore<D> {
 
         // E21 only where the device failed, and then the store has failed.
         ensures device_failed { IsErrOf result ViewStoreError.DeviceFailed
-            → HasRisen (D.failure_count self.old.device) (D.failure_count self.new.device) × (self.new.status ≡ status.Failed) }
+            → HasRisen (D.failure_count self.old.device) (D.failure_count self.new.device)
+            × (self.new.status ≡ status.Failed) }
         ensures counted { D.failure_count self.old.device ≤ D.failure_count self.new.device }
 
         // A store that has failed answers so, and calls no device.

@@ -13,8 +13,8 @@ use vr_state::payload::Payload;
 use vr_state::replica::Replica;
 use vr_state::sending::{join, sending};
 
-/// The beat of a replica that changes: its STARTVIEWCHANGE again, and its DOVIEWCHANGE if that was sent. Its only error is want
-/// of memory.
+/// The beat of a replica that changes: its STARTVIEWCHANGE again, and its DOVIEWCHANGE if that was sent. Its only error
+/// is want of memory.
 pub fn beat_changing<P: Payload>(
     alloc: Global,
     replica: &Replica<P>,
@@ -34,7 +34,8 @@ fn send_change_again<P: Payload>(
     replica: &Replica<P>,
 ) -> Result<Vec<Send<P>>, AllocError>
     ensures { IfOk result (λ sends. sends.items
-        ≡ cond (nat_le (replica.now.count / 2) (length replica.now.start_view_changes.items)) (send_change_at replica.now) []) }
+        ≡ cond (nat_le (replica.now.count / 2) (length replica.now.start_view_changes.items))
+        (send_change_at replica.now) []) }
 {
     if replica.count / 2 <= replica.start_view_changes.as_slice().len() as u64 {
         send_change(alloc, replica)

@@ -15,8 +15,8 @@ use vr_state::replica::Replica;
 use vr_state::replies::replies_between;
 use vr_state::sending::{copy_change, join, send_all, sending};
 
-/// Notes a DOVIEWCHANGE, the first of its sender, and begins the view if that completes f + 1. The step's messages come after
-/// `sends`. At an error nothing has changed.
+/// Notes a DOVIEWCHANGE, the first of its sender, and begins the view if that completes f + 1. The step's messages come
+/// after `sends`. At an error nothing has changed.
 pub fn note_change<P: Payload>(
     alloc: Global,
     replica: &mut Replica<P>,
@@ -24,7 +24,8 @@ pub fn note_change<P: Payload>(
     from: u64,
     change: Change<P>,
 ) -> Result<Outputs<P>, AllocError>
-    ensures step { IfOk result (λ out. outcome replica.new out ≡ after_sends sends.items (note_change_at replica.old from change)) }
+    ensures step { IfOk result (λ out. outcome replica.new out ≡ after_sends sends.items
+        (note_change_at replica.old from change)) }
     ensures store { IfOk result (λ out. out.store ≡ None) }
     ensures view { replica.new.view_number ≡ replica.old.view_number }
     ensures err { OnErr result (state replica.new ≡ state replica.old) }
@@ -91,15 +92,16 @@ fn copy_best<P: Payload>(
     }
 }
 
-/// Adopts the log of this DOVIEWCHANGE, tells the others of the view, and answers what is newly committed. At an error nothing
-/// has changed.
+/// Adopts the log of this DOVIEWCHANGE, tells the others of the view, and answers what is newly committed. At an error
+/// nothing has changed.
 fn begin_view<P: Payload>(
     alloc: Global,
     replica: &mut Replica<P>,
     sends: Vec<Send<P>>,
     change: Change<P>,
 ) -> Result<Outputs<P>, AllocError>
-    ensures step { IfOk result (λ out. outcome replica.new out ≡ after_sends sends.items (begin_view_at replica.old change)) }
+    ensures step { IfOk result (λ out. outcome replica.new out ≡ after_sends sends.items
+        (begin_view_at replica.old change)) }
     ensures store { IfOk result (λ out. out.store ≡ None) }
     ensures view { replica.new.view_number ≡ replica.old.view_number }
     ensures err { OnErr result (state replica.new ≡ state replica.old) }

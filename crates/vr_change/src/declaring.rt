@@ -12,8 +12,8 @@ use vr_state::payload::Payload;
 use vr_state::replica::Replica;
 use vr_state::sending::{join, send_one, sending};
 
-/// Sends its DOVIEWCHANGE, or notes it at once where the replica is the new primary itself. The step's messages come after
-/// `sends`. At an error nothing has changed.
+/// Sends its DOVIEWCHANGE, or notes it at once where the replica is the new primary itself. The step's messages come
+/// after `sends`. At an error nothing has changed.
 pub fn declare<P: Payload>(
     alloc: Global,
     replica: &mut Replica<P>,

@@ -14,7 +14,8 @@ use vr_state::replica::Replica;
 use vr_state::sending::{sending, storing};
 use vr_state::standing::is_recovering;
 
-/// What comes with a DOVIEWCHANGE of the replica with index `from`. At an error, which is want of memory, nothing has changed.
+/// What comes with a DOVIEWCHANGE of the replica with index `from`. At an error, which is want of memory, nothing has
+/// changed.
 pub fn on_do_view_change<P: Payload>(
     alloc: Global,
     replica: &mut Replica<P>,
@@ -22,7 +23,8 @@ pub fn on_do_view_change<P: Payload>(
     view_number: u64,
     change: Change<P>,
 ) -> Result<Outputs<P>, AllocError>
-    ensures step { IfOk result (λ out. outcome replica.new out ≡ do_view_change_at replica.old from view_number change) }
+    ensures step { IfOk result (λ out. outcome replica.new out ≡ do_view_change_at replica.old from view_number
+        change) }
     ensures store { IfOk result (λ out. out.store ≡ view_to_store (state replica.old) (state replica.new)) }
     ensures err { OnErr result (state replica.new ≡ state replica.old) }
     ensures index { replica.new.index ≡ replica.old.index }
@@ -59,7 +61,8 @@ fn note_in_view<P: Payload>(
     }
 }
 
-/// Enters the view and notes the DOVIEWCHANGE, if the replica is the primary of the view. At an error nothing has changed.
+/// Enters the view and notes the DOVIEWCHANGE, if the replica is the primary of the view. At an error nothing has
+/// changed.
 fn enter_and_note<P: Payload>(
     alloc: Global,
     replica: &mut Replica<P>,
@@ -85,8 +88,8 @@ fn enter_and_note<P: Payload>(
     }
 }
 
-/// Notes the DOVIEWCHANGE, if the replica is the primary of the view. The step's messages come after `sends`. At an error
-/// nothing has changed.
+/// Notes the DOVIEWCHANGE, if the replica is the primary of the view. The step's messages come after `sends`. At an
+/// error nothing has changed.
 fn note_at_primary<P: Payload>(
     alloc: Global,
     replica: &mut Replica<P>,
@@ -95,7 +98,8 @@ fn note_at_primary<P: Payload>(
     view_number: u64,
     change: Change<P>,
 ) -> Result<Outputs<P>, AllocError>
-    ensures step { IfOk result (λ out. outcome replica.new out ≡ after_sends sends.items (note_change_in_at replica.old from view_number change)) }
+    ensures step { IfOk result (λ out. outcome replica.new out ≡ after_sends sends.items
+        (note_change_in_at replica.old from view_number change)) }
     ensures store { IfOk result (λ out. out.store ≡ None) }
     ensures view { replica.new.view_number ≡ replica.old.view_number }
     ensures err { OnErr result (state replica.new ≡ state replica.old) }

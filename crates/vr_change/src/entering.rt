@@ -21,7 +21,8 @@ pub fn tell_all<P: Payload>(
     replica: &Replica<P>,
     view_number: u64,
 ) -> Result<Vec<Send<P>>, AllocError>
-    ensures { IfOk result (λ sends. sends.items ≡ to_all replica.now.count replica.now.index (StartViewChange view_number)) }
+    ensures { IfOk result (λ sends. sends.items ≡ to_all replica.now.count replica.now.index
+        (StartViewChange view_number)) }
 {
     let message = PeerMessage::StartViewChange { view_number };
     send_all(alloc, replica.count, replica.index, &message)
@@ -41,7 +42,8 @@ pub fn enter<P: Drop>(
     view_number: u64,
 ) -> Result<Left<P>, AllocError>
     ensures ok { OnOk result (state replica.new ≡ enter replica.old.count view_number (state replica.old)) }
-    ensures left { IfOk result (λ left. put_back left (enter replica.old.count view_number (state replica.old)) ≡ state replica.old) }
+    ensures left { IfOk result (λ left. put_back left (enter replica.old.count view_number (state replica.old)) ≡
+        state replica.old) }
     ensures counted { IfOk result (λ left. length left.acknowledged.items ≡ replica.old.count) }
     ensures err { OnErr result (state replica.new ≡ state replica.old) }
     ensures index { replica.new.index ≡ replica.old.index }

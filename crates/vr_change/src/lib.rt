@@ -2,10 +2,11 @@
 //! STARTVIEWCHANGE, DOVIEWCHANGE, STARTVIEW and the beat of a replica that changes. Each handler is its definition in
 //! `vr_state`; at an error nothing has changed.
 //!
-//! A view change copies a log once for each place that keeps it, and makes the client table anew by one walk. Where a later change may be
-//! refused memory, the earlier one is taken back (`Left`).
+//! A view change copies a log once for each place that keeps it, and makes the client table anew by one walk. Where a
+//! later change may be refused memory, the earlier one is taken back (`Left`).
 //!
-//! Proved: each handler is its definition: state, messages in order, replies, the view to store. Without memory nothing changes.
+//! Proved: each handler is its definition: state, messages in order, replies, the view to store. Without memory nothing
+//! changes.
 #![tactic(auto)]
 
 mod beat;

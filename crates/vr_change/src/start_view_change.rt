@@ -14,8 +14,8 @@ use vr_state::replica::Replica;
 use vr_state::sending::{sending, storing};
 use vr_state::standing::is_recovering;
 
-/// What comes with a STARTVIEWCHANGE of the replica with index `from`. At an error, which is want of memory, nothing has
-/// changed.
+/// What comes with a STARTVIEWCHANGE of the replica with index `from`. At an error, which is want of memory, nothing
+/// has changed.
 pub fn on_start_view_change<P: Payload>(
     alloc: Global,
     replica: &mut Replica<P>,
@@ -83,15 +83,16 @@ fn enter_and_note<P: Payload>(
     }
 }
 
-/// Notes the sender, and makes the DOVIEWCHANGE at the f-th, once. The step's messages come after `sends`. At an error nothing
-/// has changed.
+/// Notes the sender, and makes the DOVIEWCHANGE at the f-th, once. The step's messages come after `sends`. At an error
+/// nothing has changed.
 fn note_start<P: Payload>(
     alloc: Global,
     replica: &mut Replica<P>,
     sends: Vec<Send<P>>,
     from: u64,
 ) -> Result<Outputs<P>, AllocError>
-    ensures step { IfOk result (λ out. outcome replica.new out ≡ after_sends sends.items (note_start_at replica.old from)) }
+    ensures step { IfOk result (λ out. outcome replica.new out ≡ after_sends sends.items
+        (note_start_at replica.old from)) }
     ensures store { IfOk result (λ out. out.store ≡ None) }
     ensures view { replica.new.view_number ≡ replica.old.view_number }
     ensures err { OnErr result (state replica.new ≡ state replica.old) }

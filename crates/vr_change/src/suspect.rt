@@ -15,8 +15,8 @@ use vr_state::standing::is_recovering;
 /// The greatest view that is stored: a replica in it suspects nobody.
 pub const GREATEST_VIEW: u64 = (1 << 63) - 1;
 
-/// What comes with a suspicion: the replica enters the next view, and says so. At an error, which is want of memory, nothing
-/// has changed.
+/// What comes with a suspicion: the replica enters the next view, and says so. At an error, which is want of memory,
+/// nothing has changed.
 pub fn on_suspect<P: Payload>(
     alloc: Global,
     replica: &mut Replica<P>,

@@ -4,7 +4,8 @@ ghost use Rattle.vr_normal.specs.Rules.{acknowledging, reached_beside, with_ackn
 
 use std::alloc::{AllocError, Global};
 
-/// The acknowledgements with one more, that `from` has so many records; they never fall. Its only error is want of memory.
+/// The acknowledgements with one more, that `from` has so many records; they never fall. Its only error is want of
+/// memory.
 pub fn with_acknowledgement(
     alloc: Global,
     acknowledged: &[u64],
@@ -34,8 +35,8 @@ pub fn acknowledging(acknowledged: &[u64], index: u64, least: u64) -> u64
     found
 }
 
-/// The greatest number of records that half of all replicas, rounded down, have acknowledged beside `index`; 0 if there is
-/// none.
+/// The greatest number of records that half of all replicas, rounded down, have acknowledged beside `index`; 0 if there
+/// is none.
 pub fn reached(acknowledged: &[u64], index: u64) -> u64
     ensures { result ≡ reached_beside acknowledged.now index }
 {

@@ -10,8 +10,8 @@ use vr_state::payload::Payload;
 use vr_state::replica::Replica;
 use vr_state::sending::{send_all, sending};
 
-/// The beat of a normal primary: what isn't committed is prepared again, or the others hear how much is. Its only error is
-/// want of memory.
+/// The beat of a normal primary: what isn't committed is prepared again, or the others hear how much is. Its only error
+/// is want of memory.
 pub fn beat_primary<P: Payload>(
     alloc: Global,
     replica: &Replica<P>,

@@ -11,8 +11,8 @@ use vr_state::replica::Replica;
 use vr_state::sending::{ask_for_state, sending};
 use vr_state::standing::{commit_to, committed, follows, is_behind};
 
-/// What comes with a COMMIT of the replica with index `from`. At an error, which is want of memory, nothing has changed. It
-/// looks at no record.
+/// What comes with a COMMIT of the replica with index `from`. At an error, which is want of memory, nothing has
+/// changed. It looks at no record.
 pub fn on_commit<P: Payload>(
     alloc: Global,
     replica: &mut Replica<P>,
@@ -20,7 +20,8 @@ pub fn on_commit<P: Payload>(
     view_number: u64,
     commit_number: u64,
 ) -> Result<Outputs<P>, AllocError>
-    ensures step { IfOk result (λ out. outcome replica.new out ≡ on_commit_at replica.old from view_number commit_number) }
+    ensures step { IfOk result (λ out. outcome replica.new out ≡ on_commit_at replica.old from view_number
+        commit_number) }
     ensures store { IfOk result (λ out. out.store ≡ view_to_store (state replica.old) (state replica.new)) }
     ensures err { OnErr result (state replica.new ≡ state replica.old) }
     ensures index { replica.new.index ≡ replica.old.index }
@@ -38,8 +39,8 @@ pub fn on_commit<P: Payload>(
     }
 }
 
-/// A GETSTATE, if the log has fewer records than are committed, from those on that are committed here by then. Its only error is
-/// want of memory.
+/// A GETSTATE, if the log has fewer records than are committed, from those on that are committed here by then. Its only
+/// error is want of memory.
 fn ask_if_short<P: Payload>(
     alloc: Global,
     replica: &Replica<P>,

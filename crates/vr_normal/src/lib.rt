@@ -1,10 +1,13 @@
 //! The normal case of Viewstamped Replication Revisited (Liskov and Cowling 2012, 4.1; "VRR" below): requests, PREPARE,
-//! PREPAREOK, COMMIT and the primary's beat. Each handler is its definition in `vr_state`; at an error nothing has changed.
+//! PREPAREOK, COMMIT and the primary's beat. Each handler is its definition in `vr_state`; at an error nothing has
+//! changed.
 //!
-//! A request, a PREPARE, a PREPAREOK and a COMMIT walk no log. They look a client up, append a record, or look at one number a replica and
-//! the newly committed records. Where a later change may be refused memory, the earlier one is taken back.
+//! A request, a PREPARE, a PREPAREOK and a COMMIT walk no log. They look a client up, append a record, or look at one
+//! number a replica and the newly committed records. Where a later change may be refused memory, the earlier one is
+//! taken back.
 //!
-//! Proved: each handler is its definition: state, messages in order, replies, the view to store. Without memory nothing changes.
+//! Proved: each handler is its definition: state, messages in order, replies, the view to store. Without memory nothing
+//! changes.
 #![tactic(auto)]
 
 pub mod acknowledgements;

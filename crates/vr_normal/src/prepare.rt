@@ -13,9 +13,9 @@ use vr_state::sending::{ask_for_state, send_one, sending};
 use vr_state::standing::{commit_to, committed, follows, is_behind};
 use vr_state::words::LogEntry;
 
-/// What comes with a PREPARE of the replica with index `from`, whose record stands at the place `op_number`. At an error,
-/// which is want of memory, nothing has changed. It costs one record at the end of the log and its note in the client table; no
-/// log is walked.
+/// What comes with a PREPARE of the replica with index `from`, whose record stands at the place `op_number`. At an
+/// error, which is want of memory, nothing has changed. It costs one record at the end of the log and its note in the
+/// client table; no log is walked.
 pub fn on_prepare<P: Payload>(
     alloc: Global,
     replica: &mut Replica<P>,
@@ -25,7 +25,8 @@ pub fn on_prepare<P: Payload>(
     op_number: u64,
     commit_number: u64,
 ) -> Result<Outputs<P>, AllocError>
-    ensures step { IfOk result (λ out. outcome replica.new out ≡ on_prepare_at replica.old from view_number entry op_number commit_number) }
+    ensures step { IfOk result (λ out. outcome replica.new out ≡ on_prepare_at replica.old from view_number entry
+        op_number commit_number) }
     ensures store { IfOk result (λ out. out.store ≡ view_to_store (state replica.old) (state replica.new)) }
     ensures err { OnErr result (state replica.new ≡ state replica.old) }
     ensures index { replica.new.index ≡ replica.old.index }
@@ -59,7 +60,8 @@ fn answer_prepare<P: Payload>(
     op_number: u64,
     commit_number: u64,
 ) -> Result<Outputs<P>, AllocError>
-    ensures step { IfOk result (λ out. outcome replica.new out ≡ taken_in_at replica.old from view_number entry op_number commit_number) }
+    ensures step { IfOk result (λ out. outcome replica.new out ≡ taken_in_at replica.old from view_number entry
+        op_number commit_number) }
     ensures store { IfOk result (λ out. out.store ≡ view_to_store (state replica.old) (state replica.new)) }
     ensures err { OnErr result (state replica.new ≡ state replica.old) }
     ensures index { replica.new.index ≡ replica.old.index }
@@ -103,8 +105,8 @@ fn take_in<P: Payload>(
     }
 }
 
-/// A PREPAREOK for all that it then has, or, where earlier records are missing, a GETSTATE from those on that it then has committed.
-/// Its only error is want of memory.
+/// A PREPAREOK for all that it then has, or, where earlier records are missing, a GETSTATE from those on that it then
+/// has committed. Its only error is want of memory.
 fn acknowledge_or_ask<P: Payload>(
     alloc: Global,
     from: u64,

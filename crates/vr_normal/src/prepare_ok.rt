@@ -13,8 +13,9 @@ use vr_state::replies::replies_between;
 use vr_state::sending::sending;
 use vr_state::standing::leads;
 
-/// What comes with a PREPAREOK of the replica with index `from`. At an error, which is want of memory, nothing has changed. It
-/// costs the square of the number of replicas, and the records that it newly commits; no other record is looked at.
+/// What comes with a PREPAREOK of the replica with index `from`. At an error, which is want of memory, nothing has
+/// changed. It costs the square of the number of replicas, and the records that it newly commits; no other record is
+/// looked at.
 pub fn on_prepare_ok<P: Payload>(
     alloc: Global,
     replica: &mut Replica<P>,
@@ -22,7 +23,8 @@ pub fn on_prepare_ok<P: Payload>(
     view_number: u64,
     op_number: u64,
 ) -> Result<Outputs<P>, AllocError>
-    ensures step { IfOk result (λ out. outcome replica.new out ≡ on_prepare_ok_at replica.old from view_number op_number) }
+    ensures step { IfOk result (λ out. outcome replica.new out ≡ on_prepare_ok_at replica.old from view_number
+        op_number) }
     ensures store { IfOk result (λ out. out.store ≡ view_to_store (state replica.old) (state replica.new)) }
     ensures err { OnErr result (state replica.new ≡ state replica.old) }
     ensures index { replica.new.index ≡ replica.old.index }

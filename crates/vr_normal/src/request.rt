@@ -13,8 +13,9 @@ use vr_state::sending::{send_all, sending};
 use vr_state::standing::leads;
 use vr_state::words::{LogEntry, Reply};
 
-/// What comes with a client's request. At an error, which is want of memory, nothing has changed. It costs a look-up in the
-/// client table, the logarithm of the number of clients, and a copy of the one record for each replica; no log is walked.
+/// What comes with a client's request. At an error, which is want of memory, nothing has changed. It costs a look-up in
+/// the client table, the logarithm of the number of clients, and a copy of the one record for each replica; no log is
+/// walked.
 pub fn on_request<P: Payload>(
     alloc: Global,
     replica: &mut Replica<P>,

@@ -15,8 +15,8 @@ use vr_state::payload::Payload;
 use vr_state::replica::Replica;
 use vr_state::sending::{send_all, sending};
 
-/// The replica with this index among so many, recovering in its stored view with a nonce that it never used before, and what it
-/// sends first; its view is stored already. Its only error is want of memory.
+/// The replica with this index among so many, recovering in its stored view with a nonce that it never used before, and
+/// what it sends first; its view is stored already. Its only error is want of memory.
 pub fn recover<P: Payload>(
     alloc: Global,
     index: u64,
@@ -49,8 +49,8 @@ pub fn beat_recovering<P: Payload>(
 }
 
 #[tactic(auto, using(vr_state::proofs::Stores::none_to_store))]
-/// A suspicion at a replica that recovers: where f + 1 have answered, all in views below its own, it sends its STARTVIEWCHANGE to all
-/// others again, since nobody may have heard of its view. Its only error is want of memory.
+/// A suspicion at a replica that recovers: where f + 1 have answered, all in views below its own, it sends its
+/// STARTVIEWCHANGE to all others again, since nobody may have heard of its view. Its only error is want of memory.
 pub fn remind<P: Payload>(alloc: Global, replica: &Replica<P>) -> Result<Outputs<P>, AllocError>
     ensures step { IfOk result (λ out. outcome replica.now out ≡ remind_at replica.now) }
     ensures store { IfOk result (λ out. out.store ≡ view_to_store (state replica.now) (state replica.now)) }

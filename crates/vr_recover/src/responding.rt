@@ -15,8 +15,8 @@ use vr_state::replica::Replica;
 use vr_state::sending::{copy_snapshot, sending};
 use vr_state::standing::{grown, is_recovering};
 
-/// What comes with a RECOVERYRESPONSE of the replica with index `from`. At an error, which is want of memory, nothing has
-/// changed.
+/// What comes with a RECOVERYRESPONSE of the replica with index `from`. At an error, which is want of memory, nothing
+/// has changed.
 pub fn on_recovery_response<P: Payload>(
     alloc: Global,
     replica: &mut Replica<P>,
@@ -60,8 +60,8 @@ fn keep_and_try<P: Payload>(
     }
 }
 
-/// Ends the recovery with f + 1 responses, among them one of the latest view's primary, if that view isn't below its own. At an
-/// error nothing has changed.
+/// Ends the recovery with f + 1 responses, among them one of the latest view's primary, if that view isn't below its
+/// own. At an error nothing has changed.
 fn try_recovery<P: Payload>(
     alloc: Global,
     replica: &mut Replica<P>,

@@ -15,8 +15,8 @@ use vr_state::standing::{grown, is_behind, is_recovering};
 use vr_state::words::Status;
 
 #[tactic(auto, using(vr_state::proofs::Stores::none_to_store))]
-/// What comes with a GETSTATE of the replica with index `from`, which has so many records committed. It copies the records after
-/// these alone. Its only error is want of memory.
+/// What comes with a GETSTATE of the replica with index `from`, which has so many records committed. It copies the
+/// records after these alone. Its only error is want of memory.
 pub fn on_get_state<P: Payload>(
     alloc: Global,
     replica: &Replica<P>,
@@ -24,7 +24,8 @@ pub fn on_get_state<P: Payload>(
     view_number: u64,
     commit_number: u64,
 ) -> Result<Outputs<P>, AllocError>
-    ensures step { IfOk result (λ out. outcome replica.now out ≡ get_state_at replica.now from view_number commit_number) }
+    ensures step { IfOk result (λ out. outcome replica.now out ≡ get_state_at replica.now from view_number
+        commit_number) }
     ensures store { IfOk result (λ out. out.store ≡ view_to_store (state replica.now) (state replica.now)) }
 {
     if !can_answer(replica, view_number, commit_number) {
@@ -47,7 +48,8 @@ fn can_answer<P: Drop>(replica: &Replica<P>, view_number: u64, base: u64) -> boo
     is_normal_in(replica, view_number) && base <= replica.log.len() as u64
 }
 
-/// The log after so many records, and how much of the whole is committed, in memory of its own. Its only error is want of memory.
+/// The log after so many records, and how much of the whole is committed, in memory of its own. Its only error is want
+/// of memory.
 fn copy_tail<P: Payload>(
     alloc: Global,
     replica: &Replica<P>,
@@ -64,8 +66,8 @@ fn copy_tail<P: Payload>(
 }
 
 #[tactic(auto, using(vr_state::proofs::Stores::none_to_store))]
-/// What comes with a NEWSTATE of the replica with index `from`, whose log has `base` records before the tail. At an error, which is
-/// want of memory, nothing has changed.
+/// What comes with a NEWSTATE of the replica with index `from`, whose log has `base` records before the tail. At an
+/// error, which is want of memory, nothing has changed.
 pub fn on_new_state<P: Payload>(
     alloc: Global,
     replica: &mut Replica<P>,
@@ -88,8 +90,8 @@ pub fn on_new_state<P: Payload>(
 }
 
 #[tactic(auto, using(vr_state::proofs::Stores::none_to_store))]
-/// Adopts the tail where the records before it are committed here, and else asks its sender for all that come after those that are.
-/// At an error nothing has changed.
+/// Adopts the tail where the records before it are committed here, and else asks its sender for all that come after
+/// those that are. At an error nothing has changed.
 fn take_news<P: Payload>(
     alloc: Global,
     replica: &mut Replica<P>,
@@ -112,8 +114,8 @@ fn take_news<P: Payload>(
     }
 }
 
-/// Adopts its own first `base` records with this tail as a log of this view, and tells its primary how much that is. Its own records
-/// stay where they are. At an error nothing has changed.
+/// Adopts its own first `base` records with this tail as a log of this view, and tells its primary how much that is.
+/// Its own records stay where they are. At an error nothing has changed.
 fn take_joined<P: Payload>(
     alloc: Global,
     replica: &mut Replica<P>,

@@ -20,8 +20,8 @@ use vr_state::replica::Replica;
 use vr_state::sending::sending;
 use vr_state::words::Status;
 
-/// The step of a replica at an event: the view to store, where it grew, then the messages and the replies. At an error, which is
-/// want of memory, nothing has changed.
+/// The step of a replica at an event: the view to store, where it grew, then the messages and the replies. At an error,
+/// which is want of memory, nothing has changed.
 pub fn step<P: Payload>(
     alloc: Global,
     replica: &mut Replica<P>,

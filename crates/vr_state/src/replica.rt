@@ -91,8 +91,8 @@ impl<P: Drop> Replica<P> {
         })
     }
 
-    /// The replica after a crash: recovering in its stored view with this nonce, and with nothing else. Its only error is want of
-    /// memory.
+    /// The replica after a crash: recovering in its stored view with this nonce, and with nothing else. Its only error
+    /// is want of memory.
     pub fn recovering(
         alloc: Global,
         index: u64,
@@ -123,8 +123,8 @@ impl<P: Drop> Replica<P> {
         })
     }
 
-    /// The replica as it goes on in this view from what its journal kept, with at most so many records committed: normal where
-    /// this was its last normal view, changing to it else. Its only error is want of memory.
+    /// The replica as it goes on in this view from what its journal kept, with at most so many records committed:
+    /// normal where this was its last normal view, changing to it else. Its only error is want of memory.
     pub fn resuming(
         alloc: Global,
         index: u64,
@@ -215,8 +215,8 @@ impl<P: Drop> Replica<P> {
         }
     }
 
-    /// Is normal in this view with this log, and commits what is committed of it. The client table is made anew, by one walk
-    /// of the log, before anything changes. At an error nothing has changed.
+    /// Is normal in this view with this log, and commits what is committed of it. The client table is made anew, by one
+    /// walk of the log, before anything changes. At an error nothing has changed.
     pub fn adopt(
         &mut self,
         alloc: Global,
@@ -244,9 +244,9 @@ impl<P: Drop> Replica<P> {
         Ok(())
     }
 
-    /// Is normal in this view with its own first `base` records and this tail for its log, and commits what is committed of it. They
-    /// are joined in place: its own records stay where they are. The client table is made anew, by one walk of both parts, before
-    /// anything changes. At an error nothing has changed.
+    /// Is normal in this view with its own first `base` records and this tail for its log, and commits what is
+    /// committed of it. They are joined in place: its own records stay where they are. The client table is made anew,
+    /// by one walk of both parts, before anything changes. At an error nothing has changed.
     pub fn adopt_tail(
         &mut self,
         alloc: Global,
@@ -254,7 +254,8 @@ impl<P: Drop> Replica<P> {
         base: u64,
         tail: Snapshot<P>,
     ) -> Result<(), AllocError>
-        ensures ok { OnOk result (state self.new ≡ adopt self.old.count view_number (joined (state self.old) base tail) (state self.old)) }
+        ensures ok { OnOk result (state self.new ≡ adopt self.old.count view_number
+            (joined (state self.old) base tail) (state self.old)) }
         ensures err { OnErr result (state self.new ≡ state self.old) }
         ensures index { self.new.index ≡ self.old.index }
         ensures count { self.new.count ≡ self.old.count }

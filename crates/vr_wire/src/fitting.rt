@@ -90,7 +90,8 @@ fn perhaps_fits(held: &Option<Snapshot<Op>>) -> bool
 
 fn prepare_fits(view_number: u64, entry: &LogEntry<Op>, op_number: u64, commit_number: u64) -> bool
     ensures fits { IsTrue result → MessageIs IsSpelled (kind.Prepare view_number entry.now op_number commit_number) }
-    ensures lacks { IsFalse result → MessageIs CanBeSpelled (kind.Prepare view_number entry.now op_number commit_number) → ⊥ }
+    ensures lacks { IsFalse result → MessageIs CanBeSpelled (kind.Prepare view_number entry.now op_number
+        commit_number) → ⊥ }
 {
     view_number < NUMBER_END && two_fit(op_number, commit_number) && entry_fits(entry)
 }

@@ -35,7 +35,8 @@ pub enum Came {
     Dropped(u8),
 }
 
-/// The parts of a message that came so far on one connection, if any. Memory follows what came, not what a part announces.
+/// The parts of a message that came so far on one connection, if any. Memory follows what came, not what a part
+/// announces.
 #[derive(Drop)]
 pub struct Gathering {
     begun: Option<Begun>,
@@ -182,7 +183,8 @@ impl Gathering {
     /// What comes of a part.
     fn take_part(&mut self, alloc: Global, part: &Portion<Octets<'_>>) -> Result<Came, WireError>
         requires { part.now.place + 1 < 2 ^ 32 }
-        ensures { PartTaken (ComesOfPart (gathered self.old part.now) part.now.label.sender result self.new) result self.new }
+        ensures { PartTaken (ComesOfPart (gathered self.old part.now) part.now.label.sender result self.new) result
+            self.new }
     {
         let sender = part.label.sender;
         match gathered(alloc, self.begun.take(), part)? {
@@ -198,9 +200,10 @@ impl Gathering {
         }
     }
 
-    /// What comes of the next frame of the connection. A message's frame gives the message, and drops what was gathered. Part 0 of a message begins
-    /// anew; the next part of that message is added, and the last one gives the message; any other part drops what was gathered. After an error
-    /// nothing is gathered: E20 where the octets are no frame, or say no message together, E24 where they are a frame of another cluster.
+    /// What comes of the next frame of the connection. A message's frame gives the message, and drops what was
+    /// gathered. Part 0 of a message begins anew; the next part of that message is added, and the last one gives the
+    /// message; any other part drops what was gathered. After an error nothing is gathered: E20 where the octets are no
+    /// frame, or say no message together, E24 where they are a frame of another cluster.
     pub fn take(&mut self, alloc: Global, frame: &[u8], cluster: Cluster) -> Result<Came, WireError>
         ensures { Takes cluster self.old frame.now result self.new }
     {

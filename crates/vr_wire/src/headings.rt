@@ -38,8 +38,9 @@ fn told(first: &[u8]) -> Option<(u64, (u8, u8))>
     heading_of(first)
 }
 
-/// The kind and the sender of a frame of this cluster whose first octets behind its length are these: the version, the cluster's number, the
-/// kind, the sender. It takes no memory. E20 only where no frame of any cluster begins so, E24 only where none of this cluster does.
+/// The kind and the sender of a frame of this cluster whose first octets behind its length are these: the version, the
+/// cluster's number, the kind, the sender. It takes no memory. E20 only where no frame of any cluster begins so, E24
+/// only where none of this cluster does.
 pub fn heading(first: [u8; 9], cluster: Cluster) -> Result<(u8, u8), WireError>
     ensures { Heads cluster first result }
 {

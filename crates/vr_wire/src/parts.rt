@@ -37,8 +37,8 @@ pub struct FrameSizes {
     pub part_size: usize,
 }
 
-/// The frames of one message, of which each is handed out once, in their order: the one that the message has where it fits, and else its parts.
-/// The message is spelled once, and a part is copied from there when it is handed out.
+/// The frames of one message, of which each is handed out once, in their order: the one that the message has where it
+/// fits, and else its parts. The message is spelled once, and a part is copied from there when it is handed out.
 #[derive(Drop)]
 pub struct Frames {
     /// The message's one frame, where it fits in one, until it's handed out.
@@ -96,7 +96,8 @@ fn put_label(out: &mut Vec<u8>, message: u64, place: u32, count: u32) -> Result<
 /// A part's frame whose length isn't known yet.
 fn open_part(alloc: Global, parts: &Parts, piece: &[u8]) -> Result<Vec<u8>, WireError>
     requires { part_head + length piece.now ≤ limit }
-    ensures { WritesAlways (λ v. v.items) result (0 ∷ 0 ∷ 0 ∷ 0 ∷ part_rest parts.now.cluster parts.now.sender parts.now.number parts.now.place parts.now.count piece.now) }
+    ensures { WritesAlways (λ v. v.items) result (0 ∷ 0 ∷ 0 ∷ 0 ∷ part_rest parts.now.cluster parts.now.sender
+        parts.now.number parts.now.place parts.now.count piece.now) }
 {
     let mut frame = Vec::with_capacity(alloc, PART_HEAD + piece.len())?;
     put_head(&mut frame, parts.cluster, PART, parts.sender)?;
@@ -108,7 +109,8 @@ fn open_part(alloc: Global, parts: &Parts, piece: &[u8]) -> Result<Vec<u8>, Wire
 /// A part's frame.
 fn part_frame(alloc: Global, parts: &Parts, piece: &[u8]) -> Result<Vec<u8>, WireError>
     requires { part_head + length piece.now ≤ limit }
-    ensures { WritesAlways (λ v. v.items) result (part_octets parts.now.cluster parts.now.sender parts.now.number parts.now.place parts.now.count piece.now) }
+    ensures { WritesAlways (λ v. v.items) result (part_octets parts.now.cluster parts.now.sender parts.now.number
+        parts.now.place parts.now.count piece.now) }
 {
     let mut frame = open_part(alloc, parts, piece)?;
     put_length(&mut frame);
@@ -131,7 +133,8 @@ fn end_of(len: usize, start: usize, size: usize) -> usize
 fn next_frame(alloc: Global, parts: &Parts, end: usize) -> Result<Vec<u8>, WireError>
     requires left { AreLeft parts.now }
     requires is_end { end ≡ min (parts.now.start + parts.now.size) (length parts.now.octets.items) }
-    ensures { WritesAlways (λ v. v.items) result (part_octets parts.now.cluster parts.now.sender parts.now.number parts.now.place parts.now.count (take parts.now.size (drop parts.now.start parts.now.octets.items))) }
+    ensures { WritesAlways (λ v. v.items) result (part_octets parts.now.cluster parts.now.sender parts.now.number
+        parts.now.place parts.now.count (take parts.now.size (drop parts.now.start parts.now.octets.items))) }
 {
     let octets = parts.octets.as_slice();
     part_frame(alloc, parts, &octets[parts.start..end])
@@ -235,7 +238,8 @@ fn frames_of(
     sizes: FrameSizes,
     message: &PeerMessage<Op>,
 ) -> Result<Frames, WireError>
-    ensures { CutsFrames (min sizes.most limit) (max sizes.part_size 1) cluster sender number (written message.now) result }
+    ensures { CutsFrames (min sizes.most limit) (max sizes.part_size 1) cluster sender number (written message.now)
+        result }
 {
     let mut octets = open_frame::<NO_LIMIT>(alloc, cluster, sender, message)?;
     if octets.len() <= sizes.most.min(LIMIT) {
@@ -253,10 +257,10 @@ fn frames_of(
 }
 
 impl Frames {
-    /// The frames of a message of this sender in this cluster: the one that `write` gives where it has at most `sizes.most`
-    /// octets, and no more than 268,435,456, and else its parts, of at most `sizes.part_size` octets of the message each.
-    /// The sender gives another `number` to each message. A `part_size` of 0 is taken as 1. E20 only where a number or an
-    /// update of the message has no octets, or one frame of it would have 2 ^ 32 octets or more.
+    /// The frames of a message of this sender in this cluster: the one that `write` gives where it has at most
+    /// `sizes.most` octets, and no more than 268,435,456, and else its parts, of at most `sizes.part_size` octets of
+    /// the message each. The sender gives another `number` to each message. A `part_size` of 0 is taken as 1. E20 only
+    /// where a number or an update of the message has no octets, or one frame of it would have 2 ^ 32 octets or more.
     pub fn of(
         alloc: Global,
         cluster: Cluster,
@@ -265,7 +269,8 @@ impl Frames {
         sizes: FrameSizes,
         message: &PeerMessage<Op>,
     ) -> Result<Frames, WireError>
-        ensures made { MakesFrames (min sizes.most limit) (max sizes.part_size 1) cluster sender number message.now result }
+        ensures made { MakesFrames (min sizes.most limit) (max sizes.part_size 1) cluster sender number message.now
+            result }
         // They tell this message: `Gathering` makes it of them, and no other.
         ensures tell { IfOk result (λ frames. TellMessage cluster sender number message.now frames) }
     {
@@ -277,7 +282,8 @@ impl Frames {
         frames_of(alloc, cluster, sender, number, sizes, message)
     }
 
-    /// The next frame, or none where all were handed out. Want of memory is the only error, and then the frame is still to come.
+    /// The next frame, or none where all were handed out. Want of memory is the only error, and then the frame is still
+    /// to come.
     pub fn next(&mut self, alloc: Global) -> Result<Option<Vec<u8>>, WireError>
         ensures next { HandsFrame result self.old self.new }
         ensures small { IsFrameWithin result }

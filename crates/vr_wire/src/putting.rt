@@ -14,8 +14,8 @@ use view_store::Cluster;
 use vr_state::message::Snapshot;
 use vr_state::words::{Client, LogEntry};
 
-/// The greatest length of a frame, its first four octets included. What is spelled stops as soon as more than `LIMIT` octets stand there, and
-/// each call names its own: a message to be cut in parts has none.
+/// The greatest length of a frame, its first four octets included. What is spelled stops as soon as more than `LIMIT`
+/// octets stand there, and each call names its own: a message to be cut in parts has none.
 pub const LIMIT: usize = 268_435_456;
 
 /// No limit: as many octets as memory holds.
@@ -111,7 +111,8 @@ fn put_entry_of<const LIMIT: usize>(
     octets: &[u8],
 ) -> Result<(), WireError>
     requires { octets.now ≡ op_bytes entry.now.payload }
-    ensures spelled { PutsWithin (most_under LIMIT) result out.old.items out.new.items (entry_octets (written_entry entry.now)) }
+    ensures spelled { PutsWithin (most_under LIMIT) result out.old.items out.new.items
+        (entry_octets (written_entry entry.now)) }
     ensures kept { out.new.items ≡ out.old.items ++ drop (length out.old.items) out.new.items }
 {
     put_client(out, entry.client)?;
@@ -126,7 +127,8 @@ pub fn put_entry<const LIMIT: usize>(
     out: &mut Vec<u8>,
     entry: &LogEntry<Op>,
 ) -> Result<(), WireError>
-    ensures spelled { PutsWithin (most_under LIMIT) result out.old.items out.new.items (entry_octets (written_entry entry.now)) }
+    ensures spelled { PutsWithin (most_under LIMIT) result out.old.items out.new.items
+        (entry_octets (written_entry entry.now)) }
     ensures kept { out.new.items ≡ out.old.items ++ drop (length out.old.items) out.new.items }
 {
     if let Some(octets) = entry.payload.octets() {
@@ -142,7 +144,8 @@ fn put_entries<const LIMIT: usize>(
     out: &mut Vec<u8>,
     entries: &[LogEntry<Op>],
 ) -> Result<(), WireError>
-    ensures spelled { PutsWithin (most_under LIMIT) result out.old.items out.new.items (entries_octets (written_log entries.now)) }
+    ensures spelled { PutsWithin (most_under LIMIT) result out.old.items out.new.items
+        (entries_octets (written_log entries.now)) }
     ensures kept { out.new.items ≡ out.old.items ++ drop (length out.old.items) out.new.items }
 {
     for entry in entries {
@@ -157,7 +160,8 @@ pub fn put_log<const LIMIT: usize>(
     out: &mut Vec<u8>,
     entries: &[LogEntry<Op>],
 ) -> Result<(), WireError>
-    ensures spelled { PutsWithin (most_under LIMIT) result out.old.items out.new.items (log_octets (written_log entries.now)) }
+    ensures spelled { PutsWithin (most_under LIMIT) result out.old.items out.new.items
+        (log_octets (written_log entries.now)) }
     ensures kept { out.new.items ≡ out.old.items ++ drop (length out.old.items) out.new.items }
 {
     if entries.len() > LIMIT.min(MAX_COUNT) {
@@ -172,7 +176,8 @@ pub fn put_held<const LIMIT: usize>(
     out: &mut Vec<u8>,
     held: &Snapshot<Op>,
 ) -> Result<(), WireError>
-    ensures spelled { PutsWithin (most_under LIMIT) result out.old.items out.new.items (held_octets (written_held held.now)) }
+    ensures spelled { PutsWithin (most_under LIMIT) result out.old.items out.new.items
+        (held_octets (written_held held.now)) }
     ensures kept { out.new.items ≡ out.old.items ++ drop (length out.old.items) out.new.items }
 {
     put_number(out, held.commit_number)?;
@@ -185,7 +190,8 @@ pub fn put_perhaps<const LIMIT: usize>(
     out: &mut Vec<u8>,
     held: &Option<Snapshot<Op>>,
 ) -> Result<(), WireError>
-    ensures spelled { PutsWithin (most_under LIMIT) result out.old.items out.new.items (perhaps_octets (written_perhaps held.now)) }
+    ensures spelled { PutsWithin (most_under LIMIT) result out.old.items out.new.items
+        (perhaps_octets (written_perhaps held.now)) }
     ensures kept { out.new.items ≡ out.old.items ++ drop (length out.old.items) out.new.items }
 {
     match held {

@@ -20,7 +20,8 @@ use vr_state::message::PeerMessage;
 /// The greatest length of what follows a frame's first four octets.
 pub const REST_LIMIT: u32 = 268_435_452;
 
-/// How many octets are still to come after a frame's first four. It takes no memory. E20 only where the frame would be over the limit.
+/// How many octets are still to come after a frame's first four. It takes no memory. E20 only where the frame would be
+/// over the limit.
 pub fn rest(head: [u8; 4]) -> Result<u32, WireError>
     ensures { rest_by (from_be_bytes w32 head) result }
 {
@@ -88,14 +89,15 @@ fn read_any(alloc: Global, frame: &[u8]) -> Result<(u64, (u8, PeerMessage<Op>)),
     Ok((cluster, (sender, message)))
 }
 
-/// The sender and the message of a frame of this cluster: these octets and no others. E20 only where the octets are no frame of any cluster,
-/// E24 only where they are a frame of another one.
+/// The sender and the message of a frame of this cluster: these octets and no others. E20 only where the octets are no
+/// frame of any cluster, E24 only where they are a frame of another one.
 pub fn read(
     alloc: Global,
     frame: &[u8],
     cluster: Cluster,
 ) -> Result<(u8, PeerMessage<Op>), WireError>
-    // What is read is the sender and the message of the octets; what is refused, want of memory aside, is no frame, or another cluster's.
+    // What is read is the sender and the message of the octets; what is refused, want of memory aside, is no frame, or
+    // another cluster's.
     ensures { ReadsFrame cluster result frame.now }
 {
     let (other, said) = read_any(alloc, frame)?;

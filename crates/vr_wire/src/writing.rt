@@ -43,7 +43,8 @@ fn put_prepare<const LIMIT: usize>(
     op_number: u64,
     commit_number: u64,
 ) -> Result<(), WireError>
-    ensures spelled { PutsWithin (most_under LIMIT) result out.old.items out.new.items (body_octets (written (kind.Prepare view_number entry.now op_number commit_number))) }
+    ensures spelled { PutsWithin (most_under LIMIT) result out.old.items out.new.items
+        (body_octets (written (kind.Prepare view_number entry.now op_number commit_number))) }
     ensures kept { out.new.items ≡ out.old.items ++ drop (length out.old.items) out.new.items }
 {
     put_number(out, view_number)?;
@@ -58,7 +59,8 @@ fn put_do_view_change<const LIMIT: usize>(
     view_number: u64,
     change: &Change<Op>,
 ) -> Result<(), WireError>
-    ensures spelled { PutsWithin (most_under LIMIT) result out.old.items out.new.items (body_octets (written (kind.DoViewChange view_number change.now))) }
+    ensures spelled { PutsWithin (most_under LIMIT) result out.old.items out.new.items
+        (body_octets (written (kind.DoViewChange view_number change.now))) }
     ensures kept { out.new.items ≡ out.old.items ++ drop (length out.old.items) out.new.items }
 {
     put_number(out, view_number)?;
@@ -73,7 +75,8 @@ fn put_recovery_response<const LIMIT: usize>(
     nonce: u64,
     response: &Response<Op>,
 ) -> Result<(), WireError>
-    ensures spelled { PutsWithin (most_under LIMIT) result out.old.items out.new.items (body_octets (written (kind.RecoveryResponse nonce response.now))) }
+    ensures spelled { PutsWithin (most_under LIMIT) result out.old.items out.new.items
+        (body_octets (written (kind.RecoveryResponse nonce response.now))) }
     ensures kept { out.new.items ≡ out.old.items ++ drop (length out.old.items) out.new.items }
 {
     put_two(out, response.view_number, nonce)?;
@@ -87,7 +90,8 @@ fn put_body<const LIMIT: usize>(
     out: &mut Vec<u8>,
     message: &PeerMessage<Op>,
 ) -> Result<(), WireError>
-    ensures spelled { PutsWithin (most_under LIMIT) result out.old.items out.new.items (body_octets (written message.now)) }
+    ensures spelled { PutsWithin (most_under LIMIT) result out.old.items out.new.items
+        (body_octets (written message.now)) }
     ensures kept { out.new.items ≡ out.old.items ++ drop (length out.old.items) out.new.items }
 {
     match message {
@@ -140,7 +144,8 @@ fn put_new_state<const LIMIT: usize>(
     base: u64,
     tail: &Snapshot<Op>,
 ) -> Result<(), WireError>
-    ensures spelled { PutsWithin (most_under LIMIT) result out.old.items out.new.items (body_octets (written (kind.NewState view_number base tail.now))) }
+    ensures spelled { PutsWithin (most_under LIMIT) result out.old.items out.new.items
+        (body_octets (written (kind.NewState view_number base tail.now))) }
     ensures kept { out.new.items ≡ out.old.items ++ drop (length out.old.items) out.new.items }
 {
     put_number(out, view_number)?;
@@ -156,7 +161,8 @@ fn put_state<const LIMIT: usize>(
     view_number: u64,
     held: &Snapshot<Op>,
 ) -> Result<(), WireError>
-    ensures spelled { PutsWithin (most_under LIMIT) result out.old.items out.new.items (number view_number ++ held_octets (written_held held.now)) }
+    ensures spelled { PutsWithin (most_under LIMIT) result out.old.items out.new.items
+        (number view_number ++ held_octets (written_held held.now)) }
     ensures kept { out.new.items ≡ out.old.items ++ drop (length out.old.items) out.new.items }
 {
     put_number(out, view_number)?;
@@ -204,7 +210,8 @@ fn held_len(response: &Response<Op>) -> usize {
 
 /// Four zeros where the length will stand, the version, the cluster's number, the kind and the sender's index.
 pub fn put_head(out: &mut Vec<u8>, cluster: Cluster, kind: u8, sender: u8) -> Result<(), WireError>
-    ensures spelled { PutsAlways result out.old.items out.new.items (0 ∷ 0 ∷ 0 ∷ 0 ∷ 2 ∷ (cluster_octets cluster ++ kind ∷ sender ∷ [])) }
+    ensures spelled { PutsAlways result out.old.items out.new.items
+        (0 ∷ 0 ∷ 0 ∷ 0 ∷ 2 ∷ (cluster_octets cluster ++ kind ∷ sender ∷ [])) }
     ensures kept { out.new.items ≡ out.old.items ++ drop (length out.old.items) out.new.items }
 {
     out.extend_from_slice(&[0, 0, 0, 0, VERSION])?;
@@ -220,7 +227,8 @@ pub fn open_frame<const LIMIT: usize>(
     sender: u8,
     message: &PeerMessage<Op>,
 ) -> Result<Vec<u8>, WireError>
-    ensures { WritesWithin (most_under LIMIT) (λ v. v.items) result (0 ∷ 0 ∷ 0 ∷ 0 ∷ rest_octets cluster sender (written message.now)) }
+    ensures { WritesWithin (most_under LIMIT) (λ v. v.items) result (0 ∷ 0 ∷ 0 ∷ 0 ∷ rest_octets cluster sender
+        (written message.now)) }
 {
     let mut out = Vec::with_capacity(alloc, room_for(message))?;
     put_head(&mut out, cluster, kind_of(message), sender)?;
@@ -260,8 +268,8 @@ fn write_frame(
     Ok(frame)
 }
 
-/// The one spelling of a message of this sender in this cluster. E20 only where it would be over the limit, or a number or
-/// an update of the message has no octets. No octet is copied twice but where room is made for more.
+/// The one spelling of a message of this sender in this cluster. E20 only where it would be over the limit, or a number
+/// or an update of the message has no octets. No octet is copied twice but where room is made for more.
 pub fn write(
     alloc: Global,
     cluster: Cluster,

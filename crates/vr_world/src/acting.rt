@@ -99,8 +99,8 @@ pub fn crash<P: Drop>(cluster: &mut Cluster<P>, index: u64)
     }
 }
 
-/// A replica is up after its step: its view is stored where the step says so, and then its messages are posted and its replies
-/// noted. Its only error is want of memory.
+/// A replica is up after its step: its view is stored where the step says so, and then its messages are posted and its
+/// replies noted. Its only error is want of memory.
 pub fn settle<P: Drop>(
     cluster: &mut Cluster<P>,
     replica: Replica<P>,

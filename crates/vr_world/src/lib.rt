@@ -30,10 +30,10 @@ pub use cluster::Cluster;
 pub use events::WorldEvent;
 pub use words::ReplyBy;
 
-/// The law: for every odd number of replicas of at least three and every list of events (requests, deliveries of any message
-/// ever sent, suspicions, beats, crashes, recoveries, and replicas that go on from their journals) there is one list of
-/// committed records, which only grows. The payload may be anything. It says nothing of progress, and nothing of a network
-/// that forges messages.
+/// The law: for every odd number of replicas of at least three and every list of events (requests, deliveries of any
+/// message ever sent, suspicions, beats, crashes, recoveries, and replicas that go on from their journals) there is one
+/// list of committed records, which only grows. The payload may be anything. It says nothing of progress, and nothing
+/// of a network that forges messages.
 pub fn one_committed_list<P>()
     // Of two chosen lists one is a beginning of the other.
     ensures agree { ChosenAgree P }

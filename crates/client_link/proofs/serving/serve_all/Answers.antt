@@ -1,3 +1,4 @@
+-- What search doesn't prove of `serve_all`: the clause `served`, by lemmas of `Jobs`.
 use Rattle.ldap_session.specs.session_handler.View.{config_view}
 use Rattle.client_link.specs.Served.{HasServedSome}
 use Rattle.client_link.proofs.Jobs.{each_gives, if_ok}

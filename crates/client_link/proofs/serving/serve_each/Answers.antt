@@ -1,3 +1,4 @@
+-- What search doesn't prove of `serve_each`: `loop-init` and `loop-preserved`, by lemmas of `Turns`.
 use Rattle.ldap_session.specs.session_handler.View.{config_view}
 use Rattle.client_link.proofs.Turns.{none_served, one_more_served}
 use Rattle.client_link.proofs.serving.serve_each.Goals as goal

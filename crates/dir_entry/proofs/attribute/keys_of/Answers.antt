@@ -1,3 +1,4 @@
+-- What search doesn't prove of `keys_of`: the clause `keyed`, by lemmas of `Keyed`.
 use Rattle.std.proofs.Common.{ℕ, Vec, Global, sym, ◌∙◌}
 use Rattle.std.proofs.lemmas.Result.{IfOk-weaker}
 use Rattle.dir_entry.proofs.Keyed.{keyed_from}

@@ -1,3 +1,4 @@
+-- What search doesn't prove of `lists_of`: the clause `refused` and the clause `forms`, by lemmas of `Keyed`.
 use Rattle.std.proofs.Common.{ℕ, Result, Err, Vec, Global, ◌≡◌, ap, map, sym, ◌∙◌}
 use Rattle.std.proofs.lemmas.Result.{err_from_is_err_and}
 use Rattle.std.specs.List.{list_all}

@@ -1,3 +1,4 @@
+-- What search doesn't prove of `has_equal`: what it returns and `loop-item-preserved`, by lemmas of `Twice`.
 use Rattle.std.proofs.Common.{◌≡◌, Bool, true, false, not, refl, sym, ap, ◌∙◌}
 use Rattle.std.specs.Cmp.{eq_by_cmp_equiv}
 use Rattle.std.specs.Ordering.{eq_by_cmp}

@@ -1,3 +1,4 @@
+-- What search doesn't prove of `has_twice`: what it returns, by lemmas of `Twice`.
 use Rattle.std.proofs.Common.{ℕ, Bor, List, ◌∙◌}
 use Rattle.std.specs.Str.{bytes_eq}
 use Rattle.std.proofs.lemmas.Result.{IfOk-weaker}

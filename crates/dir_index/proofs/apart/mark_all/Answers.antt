@@ -1,3 +1,4 @@
+-- What search doesn't prove of `mark_all`: `loop-attribute-preserved`, by lemmas of `Changed`.
 use Rattle.std.proofs.Common.{◌∙◌}
 use Rattle.dir_index.proofs.Changed.{entry_rest}
 use Rattle.dir_index.proofs.apart.mark_all.Goals as goal

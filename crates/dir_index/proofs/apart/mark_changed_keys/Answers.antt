@@ -1,3 +1,4 @@
+-- What search doesn't prove of `mark_changed_keys`: the clause `apart`, by lemmas of `Changed`.
 use Rattle.std.proofs.Common.{sym, ◌∙◌, ap}
 use Rattle.dir_index.proofs.Changed.{no_keys, left_off, right_off}
 use Rattle.dir_index.proofs.apart.mark_changed_keys.Goals as goal

@@ -1,3 +1,5 @@
+-- What search doesn't prove of `marks_apart`: `loop-earlier_first-preserved-then-eq`,
+-- `loop-earlier_first-preserved-then-earlier-later` and `loop-earlier_first-preserved`, by lemmas of `Changed`.
 use Rattle.std.proofs.Common.{sym, ◌∙◌}
 use Rattle.dir_index.proofs.Changed.{entry_rest, entry_pair}
 use Rattle.dir_index.proofs.apart.marks_apart.Goals as goal

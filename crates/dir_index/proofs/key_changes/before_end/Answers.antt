@@ -1,3 +1,4 @@
+-- What search doesn't prove of `before_end`: `loop-earlier_key-preserved`, by lemmas of `Changed`.
 use Rattle.std.proofs.Common.{sym, ◌∙◌}
 use Rattle.dir_index.proofs.Changed.{any_end}
 use Rattle.dir_index.proofs.key_changes.before_end.Goals as goal

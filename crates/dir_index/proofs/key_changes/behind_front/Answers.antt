@@ -1,3 +1,4 @@
+-- What search doesn't prove of `behind_front`: `loop-earlier_key-preserved`, by lemmas of `Changed`.
 use Rattle.std.proofs.Common.{sym, ◌∙◌}
 use Rattle.dir_index.proofs.Changed.{any_front}
 use Rattle.dir_index.proofs.key_changes.behind_front.Goals as goal

@@ -1,3 +1,4 @@
+-- What search doesn't prove of `changed_keys`: what it returns, step by step.
 use Rattle.std.proofs.Common.{sym, ◌∙◌}
 use Rattle.dir_index.proofs.key_changes.changed_keys.Goals as goal
 

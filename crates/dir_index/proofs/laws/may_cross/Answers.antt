@@ -1,3 +1,4 @@
+-- What search doesn't prove of `may_cross`: what `crosses` requires, by lemmas of `Crossing`.
 use Rattle.dir_index.proofs.Crossing.{postings_cross}
 use Rattle.dir_index.proofs.laws.may_cross.Goals as goal
 

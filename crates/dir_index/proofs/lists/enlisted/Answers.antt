@@ -1,3 +1,5 @@
+-- What search doesn't prove of `enlisted`: the clause `is` and the clause `rising`, by lemmas of `Lookups` and
+-- `Numbers`.
 use Rattle.std.proofs.Common.{◌≡◌, [], cond, sym, ap, ◌∙◌, subst, List, ℕ}
 use Rattle.std.specs.Ordering.{nat_cmp}
 use Rattle.std.specs.BTreeSet.{insert_key}

@@ -1,3 +1,5 @@
+-- What search doesn't prove of `enlisted_in`: `loop-key-preserved-then-not-contains` and `loop-key-preserved`, by
+-- lemmas of `Keys`, `Marking` and `Numbers`.
 use Rattle.std.proofs.Common.{◌≡◌, true, false, not, List, ◌∷◌, nat_eq, sym, ap, ◌∙◌}
 use Rattle.std.specs.Prelude.{◌||◌, ◌&&◌}
 use Rattle.std.specs.Map.Iter.{deref}

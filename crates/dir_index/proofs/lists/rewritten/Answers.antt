@@ -1,3 +1,5 @@
+-- What search doesn't prove of `rewritten`: the clause `is` and the clause `rising`, by lemmas of `Lookups` and
+-- `Numbers`.
 use Rattle.std.proofs.Common.{◌≡◌, [], cond, sym, ap, ◌∙◌, subst, List, ℕ}
 use Rattle.dir_index.specs.declared.list_key.ListKey.{ListKey}
 use Rattle.dir_index.specs.Postings.{IsRising}

@@ -1,3 +1,4 @@
+-- What search doesn't prove of `mark`: what it returns, by lemmas of `Marking`.
 use Rattle.std.proofs.Common.{ℕ, List, ap₂, ◌∙◌}
 use Rattle.std.specs.Prelude.{◌||◌}
 use Rattle.dir_index.specs.ListKeys.{key_of, is_same_list}

@@ -1,3 +1,4 @@
+-- What search doesn't prove of `mark_keys`: `loop-key-preserved`, by lemmas of `Marking`.
 use Rattle.std.proofs.Common.{ap, ◌∙◌}
 use Rattle.std.specs.Prelude.{◌||◌}
 use Rattle.dir_index.specs.private.Marked.{has_posting, is_from_key}

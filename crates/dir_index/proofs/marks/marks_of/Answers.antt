@@ -1,3 +1,4 @@
+-- What search doesn't prove of `marks_of`: `loop-attribute-preserved`, by lemmas of `Marking`.
 use Rattle.std.proofs.Common.{List, sym, ap, ◌∙◌}
 use Rattle.std.specs.Prelude.{◌||◌}
 use Rattle.index_choice.specs.dir_entry.Entry.{KeyedAttribute}

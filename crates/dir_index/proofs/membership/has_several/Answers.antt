@@ -1,3 +1,4 @@
+-- What search doesn't prove of `has_several`: `loop-attribute-preserved`, by lemmas of `Marking` and `Changed`.
 use Rattle.std.proofs.Common.{◌≡◌, ℕ, Bool, false, nat_eq, sym, ap, ◌∙◌}
 use Rattle.std.specs.Prelude.{◌&&◌}
 use Rattle.dir_index.specs.private.Marked.{makes_several}

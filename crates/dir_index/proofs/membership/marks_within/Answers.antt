@@ -1,3 +1,4 @@
+-- What search doesn't prove of `marks_within`: `loop-key-preserved-in_ok-insert`, by lemmas of `Marking` and `Changed`.
 use Rattle.std.proofs.Common.{◌≡◌, Bool, List, ◌∷◌, sym, ap, ◌∙◌}
 use Rattle.std.specs.Prelude.{◌&&◌, ◌||◌}
 use Rattle.std.specs.Map.Iter.{deref}

@@ -1,3 +1,4 @@
+-- What search doesn't prove of `all_moves`: what it returns, step by step.
 use Rattle.std.proofs.Common.{Bool, ap₂}
 use Rattle.dir_index.specs.private.Whole.{moved}
 use Rattle.dir_index.proofs.moves.all_moves.Goals as goal

@@ -1,3 +1,4 @@
+-- What search doesn't prove of `moves_between`: what it returns, by lemmas of `Changed`.
 use Rattle.std.proofs.Common.{Bool, ap₂, ◌∙◌}
 use Rattle.dir_index.specs.private.Whole.{moved}
 use Rattle.dir_index.specs.private.Marked.{has_posting, lists_entry}

@@ -1,3 +1,4 @@
+-- What search doesn't prove of `is_below`: what it returns, by lemmas of `Keys`.
 use Rattle.std.proofs.Common.{sym, ap, ◌∙◌}
 use Rattle.std.specs.Ordering.{is_lt}
 use Rattle.dir_index.proofs.Keys.{before_lt}

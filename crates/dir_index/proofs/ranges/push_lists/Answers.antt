@@ -1,3 +1,4 @@
+-- What search doesn't prove of `push_lists`: what it returns, by lemmas of `Marking` and `Ranged`.
 use Rattle.std.proofs.Common.{◌≡◌, ap, ◌∙◌, subst, sym}
 use Rattle.std.specs.Prelude.{◌||◌, ◌&&◌}
 use Rattle.index_choice.specs.dir_entry.shared_map.Runs.{entries_after}

@@ -1,3 +1,4 @@
+-- What search doesn't prove of `push_rest`: `loop-key-init` and what it returns, by lemmas of `Marking` and `Ranged`.
 use Rattle.std.proofs.Common.{◌≡◌, false, sym, ap, ◌∙◌, subst}
 use Rattle.std.specs.Prelude.{◌||◌}
 use Rattle.index_choice.specs.dir_entry.shared_map.Entries.{Rises, IsAhead}

@@ -1,3 +1,4 @@
+-- What search doesn't prove of `advance_all`: the clause `records`, by lemmas of `Kept`.
 use Rattle.std.proofs.Common.{arith}
 use Rattle.dir_lab.proofs.Kept.{up_to_all}
 use Rattle.dir_lab.proofs.advancing.advance_all.Goals as goal

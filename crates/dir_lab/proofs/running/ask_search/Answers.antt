@@ -1,3 +1,4 @@
+-- What search doesn't prove of `ask_search`: the clause `next`, by lemmas of `Kept` and `Schedules`.
 use Rattle.std.proofs.Common.{nat_lt, List, Option, refl, ap₂, ◌∙◌, arith, lt-ltb}
 use Rattle.std.specs.Arc.{arc_value}
 use Rattle.vr_state.specs.State.{State}

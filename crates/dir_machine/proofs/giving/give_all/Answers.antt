@@ -1,3 +1,4 @@
+-- What search doesn't prove of `give_all`: what it returns, by lemmas of `Handled` and `Taking`.
 use Rattle.std.proofs.Common.{◌≢◌, refl, rules, sym, subst}
 use Rattle.std.proofs.lemmas.Result.{IfOk-weaker}
 use Rattle.dir_node.specs.declared.config.AllHandled.{AllHandled}

@@ -1,3 +1,4 @@
+-- What search doesn't prove of `give_one`: what it returns, by lemmas of `Handled`.
 use Rattle.std.proofs.Common.{[], ◌∷◌, ◌++◌, ◌≢◌, List, Result, Ok, inr, refl, rules, sym, ap, ◌∙◌, subst}
 use Rattle.std.proofs.lemmas.Result.{IfOk-weaker}
 use Rattle.std.specs.declared.alloc.AllocError.{AllocError}

@@ -1,3 +1,4 @@
+-- What search doesn't prove of `asked_all`: `loop-one-preserved` and what it returns, by lemmas of `Asked`.
 use Rattle.std.proofs.Common.{List, Option, sym, subst}
 use Rattle.state_machine.specs.dir_store.ldap_op.Values.{OpValue}
 use Rattle.vr_state.specs.declared.event.Event.{Event}

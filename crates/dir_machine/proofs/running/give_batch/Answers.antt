@@ -1,3 +1,4 @@
+-- What search doesn't prove of `give_batch`: what it returns, by lemmas of `Asked` and `Played`.
 use Rattle.std.proofs.Common.{List, Option, Some, Vec, refl, sym, ap, ◌∙◌, subst, arith, inl}
 use Rattle.std.proofs.lemmas.Option.{slice_get-get_or}
 use Rattle.std.specs.Global.{Global}

@@ -1,3 +1,4 @@
+-- What search doesn't prove of `laws`: what it returns, step by step.
 use Rattle.dir_machine.proofs.running.laws.Goals as goal
 
 pub returns : goal.returns

@@ -1,3 +1,4 @@
+-- What search doesn't prove of `tell_one`: what it returns, by lemmas of `Asked` and `Played`.
 use Rattle.std.proofs.Common.{Some, refl, sym, ap, ◌∙◌, arith, inl}
 use Rattle.std.proofs.lemmas.Option.{slice_get-get_or}
 use Rattle.dir_machine.proofs.Asked.{on_ok}

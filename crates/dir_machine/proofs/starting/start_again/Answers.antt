@@ -1,3 +1,4 @@
+-- What search doesn't prove of `start_again`: what it returns, step by step.
 use Rattle.std.proofs.Common.{ℕ, Option, Vec, IfOk, sym, subst}
 use Rattle.std.specs.Global.{Global}
 use Rattle.dir_machine.specs.private.Processes.{IsStarted}

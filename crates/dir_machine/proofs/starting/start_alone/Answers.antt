@@ -1,3 +1,4 @@
+-- What search doesn't prove of `start_alone`: what it returns, by lemmas of `Starts`.
 use Rattle.std.proofs.Common.{refl}
 use Rattle.dir_machine.proofs.Starts.{alone_placed, alone_refused, alone_started}
 use Rattle.dir_machine.proofs.starting.start_alone.Goals as goal

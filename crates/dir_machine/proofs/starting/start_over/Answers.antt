@@ -1,3 +1,4 @@
+-- What search doesn't prove of `start_over`: what it returns, by lemmas of `Starts`.
 use Rattle.std.proofs.Common.{refl}
 use Rattle.journal.specs.Frames.{recorded}
 use Rattle.journal.specs.Memory.{seen_after}

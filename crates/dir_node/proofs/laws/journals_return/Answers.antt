@@ -1,3 +1,4 @@
+-- What search doesn't prove of `journals_return`: what it returns, by lemmas of `Returning`.
 use Rattle.dir_node.proofs.Returning.{journals_back}
 use Rattle.dir_node.proofs.laws.journals_return.Goals as goal
 

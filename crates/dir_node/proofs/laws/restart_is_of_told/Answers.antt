@@ -1,3 +1,5 @@
+-- What search doesn't prove of `restart_is_of_told`: the clause `told` and the clause `taken`, by lemmas of
+-- `Returning`.
 use Rattle.dir_node.proofs.Returning.{restart_told_back, restart_taken_back}
 use Rattle.dir_node.proofs.laws.restart_is_of_told.Goals as goal
 

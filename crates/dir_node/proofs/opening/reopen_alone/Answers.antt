@@ -1,3 +1,4 @@
+-- What search doesn't prove of `reopen_alone`: the clause `kept`, by lemmas of `Views`.
 use Rattle.std.proofs.Common.{false, sym, subst}
 use Rattle.dir_node.specs.NodeState.{KeepsPair, NodeValue}
 use Rattle.dir_node.proofs.Views.{left_pair}

@@ -1,3 +1,5 @@
+-- What search doesn't prove of `reopen_over`: the clause `kept`, the clause `logged` and the clause `stale_journal`, by
+-- lemmas of `Logging`, `Restarts` and `Views`.
 use Rattle.std.proofs.Common.{ℕ, Err, Some, ap, sym, ◌∙◌, subst, true}
 use Rattle.log_journal.specs.journal.Frames.{recorded}
 use Rattle.view_store.specs.Slots.{found}

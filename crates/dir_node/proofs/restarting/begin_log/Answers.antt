@@ -1,3 +1,4 @@
+-- What search doesn't prove of `begin_log`: the clause `told`, by lemmas of `Starts`.
 use Rattle.std.proofs.Common.{List, ℕ, sym, ap, ◌∙◌, subst}
 use Rattle.log_journal.specs.Kept.{IsMemory}
 use Rattle.log_journal.specs.journal.Frames.{recorded}

@@ -1,3 +1,5 @@
+-- What search doesn't prove of `read_log`: the clause `told`, the clause `version` and the clause `damaged`, step by
+-- step.
 use Rattle.std.proofs.Common.{◌≡◌, List, ℕ, Err, ap, ◌∙◌, subst}
 use Rattle.log_journal.specs.Found.{HasAnotherVersion, IsFound}
 use Rattle.log_journal.specs.Refused.{HasDamage}

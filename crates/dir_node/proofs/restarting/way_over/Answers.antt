@@ -1,3 +1,5 @@
+-- What search doesn't prove of `way_over`: the clause `way`, the clause `foreign` and the clause `stale`, by lemmas of
+-- `Starts`.
 use Rattle.std.proofs.Common.{subst}
 use Rattle.log_journal.specs.Found.{IsFound}
 use Rattle.log_journal.specs.Views.{told_view}

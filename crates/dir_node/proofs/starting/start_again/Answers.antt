@@ -1,3 +1,5 @@
+-- What search doesn't prove of `start_again`: the clause `any_moment`, the clause `no_pair` and the clause `placed`, by
+-- lemmas of `Views`.
 use Rattle.std.proofs.Common.{subst, sym, ap, ◌∙◌, rules}
 use Rattle.view_store.specs.Slots.{own, IsWellPlaced}
 use Rattle.dir_node.proofs.Views.{started_left, why_no_start}

@@ -1,3 +1,4 @@
+-- What search doesn't prove of `step_all`: the clause `taken`, step by step.
 use Rattle.std.proofs.Common.{◌≡◌, List, [], Result, refl, sym, subst, arith}
 use Rattle.std.proofs.lemmas.List.{nil_from_length, append-nil}
 use Rattle.std.specs.declared.alloc.AllocError.{AllocError}

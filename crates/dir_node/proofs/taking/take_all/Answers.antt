@@ -1,3 +1,4 @@
+-- What search doesn't prove of `take_all`: the clause `taken`, by lemmas of `Handling`.
 use Rattle.std.proofs.Common.{[]}
 use Rattle.vr_state.specs.Views.{state}
 use Rattle.dir_node.proofs.Handling.{steps_of}

@@ -1,3 +1,5 @@
+-- What search doesn't prove of `guide`: the clause `guides`, the clause `few`, the clause `plans` and the clause
+-- `told`, by lemmas of `Guided`.
 use Rattle.dir_search.proofs.Guided.{guided, leaves_few, told_open}
 use Rattle.dir_search.proofs.bound_search.guide.Goals as goal
 

@@ -1,3 +1,4 @@
+-- What search doesn't prove of `search`: the clause `few` and the clause `counted`, by lemmas of `Answered`.
 use Rattle.std.proofs.Common.{ap}
 use Rattle.indexed_tree.specs.ldap_dn.Texts.{name_of_text}
 use Rattle.indexed_tree.specs.directory_api.ldap_msg.View.{search_view}

@@ -1,3 +1,4 @@
+-- What search doesn't prove of `look_search`: what `enter_as` requires, by lemmas of `Begins` and `Kept`.
 use Rattle.dir_seats.proofs.Begins.{begins_self}
 use Rattle.dir_seats.proofs.Kept.{sees}
 use Rattle.dir_seats.proofs.look.look_search.Goals as goal

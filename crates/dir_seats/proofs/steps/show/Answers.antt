@@ -1,3 +1,5 @@
+-- What search doesn't prove of `show`: what `publish_as` requires and what it returns, by lemmas of `Begins` and
+-- `Kept`.
 use Rattle.std.proofs.Common.{sym, subst}
 use Rattle.dir_seats.specs.Lists.{IsBeginning}
 use Rattle.dir_seats.proofs.Begins.{both}

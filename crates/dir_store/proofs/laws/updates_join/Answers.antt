@@ -1,3 +1,4 @@
+-- What search doesn't prove of `updates_join`: the clause `directories` and the clause `replies`, by lemmas of `Joins`.
 use Rattle.dir_store.proofs.Joins.{after_join, replies_join}
 use Rattle.dir_store.proofs.laws.updates_join.Goals as goal
 

@@ -1,3 +1,5 @@
+-- What search doesn't prove of `behind`: `slice_bounds-result-count`, `slice_bounds-result-start` and what it returns,
+-- by lemmas of `NameFacts`.
 use Rattle.dir_tree.proofs.NameFacts.{front_long, behind_on, behind_off}
 use Rattle.dir_tree.proofs.finding.behind.Goals as goal
 

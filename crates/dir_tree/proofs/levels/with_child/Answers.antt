@@ -1,3 +1,4 @@
+-- What search doesn't prove of `with_child`: the clause `steps` and the clause `children`, by lemmas of `LevelFacts`.
 use Rattle.std.proofs.Common.{ap}
 use Rattle.dir_tree.specs.declared.place.Below.{Below}
 use Rattle.dir_tree.specs.private.Superiors.{below_at}

@@ -1,3 +1,4 @@
+-- What search doesn't prove of `without_below`: what it returns, by lemmas of `LevelFacts`.
 use Rattle.std.proofs.Common.{ℕ, List, ap, ◌∙◌}
 use Rattle.dir_tree.specs.declared.place.Below.{Below}
 use Rattle.dir_tree.specs.private.Superiors.{below_at}

@@ -1,3 +1,4 @@
+-- What search doesn't prove of `joined`: `loop-number-preserved`, by lemmas of `Kept` and `LevelFacts`.
 use Rattle.std.proofs.Common.{ap, ◌∙◌}
 use Rattle.dir_entry.specs.shared_map.Sets.{has_number}
 use Rattle.dir_tree.proofs.Kept.{has-put}

@@ -1,3 +1,4 @@
+-- What search doesn't prove of `read_lines`: `loop-init`, the clause `ok` and `loop-preserved`, by lemmas of `Reading`.
 use Rattle.std.proofs.Common.{ℕ, List, map}
 use Rattle.std.proofs.lemmas.List.{map-append}
 use Rattle.lab_script.specs.Script.{lines_in}

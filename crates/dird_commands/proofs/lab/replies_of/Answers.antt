@@ -1,3 +1,4 @@
+-- What search doesn't prove of `replies_of`: the clause `ok`, by lemmas of `Playing`.
 use Rattle.std.proofs.Common.{map}
 use Rattle.std.specs.Arc.{arc_value}
 use Rattle.lab_script.specs.dir_lab.Shown.{shown_view}

@@ -1,3 +1,4 @@
+-- What search doesn't prove of `write_answer`: what it returns, by lemmas of `Replying`.
 use Rattle.lab_script.specs.dir_lab.dir_search.directory_api.FoundView.{found_view}
 use Rattle.dird_commands.specs.private.Replies.{entry_line}
 use Rattle.dird_commands.proofs.Replying.{answer_done}

@@ -1,3 +1,4 @@
+-- What search doesn't prove of `write_replied`: what it returns, by lemmas of `Replying`.
 use Rattle.std.proofs.Common.{[], ◌∷◌, codes, decimal}
 use Rattle.dird_commands.proofs.Replying.{text_as, ten_parts}
 use Rattle.dird_commands.proofs.replies.write_replied.Goals as goal

@@ -1,3 +1,4 @@
+-- What search doesn't prove of `write_replies`: `loop-reply-preserved`, by lemmas of `Replying`.
 use Rattle.lab_script.specs.dir_lab.Shown.{shown_view}
 use Rattle.dird_commands.specs.private.Replies.{text_of}
 use Rattle.dird_commands.proofs.Replying.{one_more}

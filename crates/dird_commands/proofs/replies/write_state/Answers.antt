@@ -1,3 +1,4 @@
+-- What search doesn't prove of `write_state`: what it returns, by lemmas of `Replying`.
 use Rattle.std.proofs.Common.{◌++◌, [], ◌∷◌, codes, decimal, ap, ◌∙◌}
 use Rattle.dird_commands.specs.private.Replies.{status_word}
 use Rattle.dird_commands.proofs.Replying.{text_as, ten_parts}

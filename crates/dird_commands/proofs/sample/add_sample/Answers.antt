@@ -1,3 +1,4 @@
+-- What search doesn't prove of `add_sample`: the clause `applied`, by lemmas of `Sampled`.
 use Rattle.std.proofs.lemmas.Result.{on_ok_weaker}
 use Rattle.dird_commands.proofs.Sampled.{six_adds}
 use Rattle.dird_commands.proofs.sample.add_sample.Goals as goal

@@ -1,3 +1,4 @@
+-- What search doesn't prove of `pair_counts`: what it returns, by lemmas of `Pairs`.
 use Rattle.directory_api.proofs.Pairs.{pair_counts}
 use Rattle.directory_api.proofs.pair.pair_counts.Goals as goal
 

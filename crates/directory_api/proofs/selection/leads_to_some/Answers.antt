@@ -1,3 +1,5 @@
+-- What search doesn't prove of `leads_to_some`: `loop-init`, what it returns and `loop-preserved`, by lemmas of
+-- `Resolved`.
 use Rattle.std.proofs.Common.{ℕ, ◌-◌, ◌<◌, length, ap, sym, ◌∙◌, subst, arith}
 use Rattle.std.specs.List.{list_any}
 use Rattle.dir_tree.specs.ldap_schema.Schema.{superiors}

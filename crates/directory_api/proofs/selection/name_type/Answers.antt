@@ -1,3 +1,4 @@
+-- What search doesn't prove of `name_type`: what it returns, by lemmas of `Resolved`.
 use Rattle.std.proofs.Common.{◌||◌, ℕ, Option, sym, ap, ◌∙◌, length}
 use Rattle.dir_tree.specs.ldap_schema.Schema.{superiors}
 use Rattle.directory_api.specs.Selection.{is_named_by}

@@ -1,3 +1,5 @@
+-- What search doesn't prove of `put_value_set`: the clause `too_long`, the clause `kept` and the clause `ok`, by lemmas
+-- of `Puts` (`ldap_msg`).
 use Rattle.std.proofs.Common.{◌∷◌, arith}
 use Rattle.std.proofs.lemmas.Result.{err_from_is_err_and}
 use Rattle.ldap_msg.specs.ldap_ber.Element.{element_bytes, length_octets}

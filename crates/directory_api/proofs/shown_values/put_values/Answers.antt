@@ -1,3 +1,5 @@
+-- What search doesn't prove of `put_values`: the clause `too_long`, `loop-value-preserved` and the clause `kept`, by
+-- lemmas of `ShownValues` and `Puts` (`ldap_msg`).
 use Rattle.std.proofs.Common.{◌∙◌}
 use Rattle.std.proofs.lemmas.Result.{err_from_is_err_and}
 use Rattle.ldap_msg.proofs.ldap_ber.Puts.{kept_front}

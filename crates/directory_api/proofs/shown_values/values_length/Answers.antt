@@ -1,3 +1,4 @@
+-- What search doesn't prove of `values_length`: `loop-value-preserved`, by lemmas of `ShownValues`.
 use Rattle.std.proofs.Common.{ℕ, List, length, min, ap}
 use Rattle.directory_api.proofs.ShownValues.{value_measure}
 use Rattle.directory_api.proofs.shown_values.values_length.Goals as goal

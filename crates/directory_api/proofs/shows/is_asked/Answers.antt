@@ -1,3 +1,4 @@
+-- What search doesn't prove of `is_asked`: what it returns, by lemmas of `Selectors`.
 use Rattle.std.proofs.Common.{sym, ap, ◌∙◌, List, ℕ}
 use Rattle.std.specs.Str.{str_eq_ignore_ascii_case}
 use Rattle.directory_api.proofs.Selectors.{some_at}

@@ -1,3 +1,5 @@
+-- What search doesn't prove of `add_values`: what `join` requires, the clause `refused`, the clause `ok` and the clause
+-- `keyed`, by lemmas of `Edited`.
 use Rattle.std.proofs.Common.{ℕ, List, false, length, Vec, Global, Ok, map, ap, sym, subst, ◌≡◌, ◌∙◌}
 use Rattle.dir_entry.specs.Entry.{AttributeModel, KeyedAttribute, attributes_of, IsKeyedBy}
 use Rattle.dir_entry.specs.Adding.{Refuses}

@@ -1,3 +1,4 @@
+-- What search doesn't prove of `delete_attribute`: the clause `keyed`, step by step.
 use Rattle.std.proofs.Common.{List, sym, subst}
 use Rattle.dir_entry.specs.Entry.{KeyedAttribute, IsKeyedBy}
 use Rattle.entry_changes.proofs.changing.delete_attribute.Goals as goal

@@ -1,3 +1,5 @@
+-- What search doesn't prove of `delete_given`: the clause `refused`, the clause `ok` and the clause `keyed`, by lemmas
+-- of `Edited`.
 use Rattle.std.proofs.Common.{ℕ, List, Vec, Global, Ok, Err, map, refl, ap, sym, subst, ◌≡◌, ◌∙◌}
 use Rattle.std.proofs.lemmas.Result.{IfErr-weaker, IfOk-weaker}
 use Rattle.dir_entry.specs.Entry.{AttributeModel, KeyedAttribute, attributes_of, IsKeyedBy}

@@ -1,3 +1,4 @@
+-- What search doesn't prove of `delete_values`: the clause `keyed`, step by step.
 use Rattle.std.proofs.lemmas.Result.{IfOk-weaker}
 use Rattle.entry_changes.proofs.changing.delete_values.Goals as goal
 

@@ -1,3 +1,4 @@
+-- What search doesn't prove of `join`: the clause `fresh`, by lemmas of `Marked`.
 use Rattle.std.proofs.Common.{Option, ap, ◌∙◌}
 use Rattle.std.specs.List.{list_any}
 use Rattle.dir_entry.specs.Entry.{KeyedAttribute}

@@ -1,3 +1,4 @@
+-- What search doesn't prove of `replace_values`: the clause `ok` and the clause `keyed`, by lemmas of `Edited`.
 use Rattle.std.proofs.Common.{ℕ, List, Vec, Global, Ok, map, ap, sym, subst, ◌≡◌, ◌∙◌}
 use Rattle.dir_entry.specs.Entry.{AttributeModel, KeyedAttribute, attributes_of, IsKeyedBy}
 use Rattle.dir_entry.specs.ldap_match.Keyed.{AreKeysOf}

@@ -1,3 +1,4 @@
+-- What search doesn't prove of `hold`: the clause `held` and the clause `others`, by lemmas of `Reached`.
 use Rattle.std.proofs.Common.{ℕ, Bor, List, Some, cond, ap, ◌∙◌}
 use Rattle.std.specs.Str.{bytes_eq}
 use Rattle.entry_changes.specs.Opening.{since, octets_by}

@@ -1,3 +1,4 @@
+-- What search doesn't prove of `holds_all_of`: what it returns, by lemmas of `Reached`.
 use Rattle.std.proofs.Common.{ℕ, Bor, List, is_some, ◌∙◌}
 use Rattle.entry_changes.specs.Opening.{since, octets_by}
 use Rattle.entry_changes.proofs.Reached.{all_of_octets}

@@ -1,3 +1,4 @@
+-- What search doesn't prove of `index_of`: the clause `held`, by lemmas of `Reached`.
 use Rattle.std.proofs.Common.{ℕ, Bor, List, Vec, Global, Some, cond, ap, ◌∙◌}
 use Rattle.std.specs.List.{list_any}
 use Rattle.std.specs.Str.{bytes_eq}

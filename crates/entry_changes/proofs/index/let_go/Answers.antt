@@ -1,3 +1,4 @@
+-- What search doesn't prove of `let_go`: the clause `held`, by lemmas of `Reached`.
 use Rattle.std.proofs.Common.{ℕ, Bor, List, None, cond, ap, ◌∙◌}
 use Rattle.std.specs.Str.{bytes_eq}
 use Rattle.entry_changes.specs.Opening.{since, octets_by}

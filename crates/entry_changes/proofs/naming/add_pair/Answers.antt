@@ -1,3 +1,4 @@
+-- What search doesn't prove of `add_pair`: the clause `ok` and the clause `refused`, by lemmas of `Joined`.
 use Rattle.std.proofs.Common.{ℕ, List, Vec, Global, [], ◌∷◌, map, ap, sym, ◌∙◌}
 use Rattle.dir_entry.specs.Entry.{attributes_of}
 use Rattle.entry_changes.specs.Naming.{with_value}

@@ -1,3 +1,4 @@
+-- What search doesn't prove of `are_equivalent_by`: what it returns, by lemmas of `Held`.
 use Rattle.std.proofs.Common.{Ok, ap, ◌∙◌}
 use Rattle.entry_changes.proofs.Held.{equivalent_keys}
 use Rattle.entry_changes.proofs.naming.are_equivalent_by.Goals as goal

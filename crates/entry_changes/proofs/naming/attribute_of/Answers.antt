@@ -1,3 +1,5 @@
+-- What search doesn't prove of `attribute_of`: the clause `kind`, the clause `keys` and the clause `values`, by lemmas
+-- of `Placed`.
 use Rattle.std.proofs.Common.{option_map}
 use Rattle.entry_changes.proofs.Placed.{kind_there, keys_there, values_at}
 use Rattle.entry_changes.proofs.naming.attribute_of.Goals as goal

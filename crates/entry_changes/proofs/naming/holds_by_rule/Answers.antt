@@ -1,3 +1,4 @@
+-- What search doesn't prove of `holds_by_rule`: what it returns, by lemmas of `Held`.
 use Rattle.std.proofs.Common.{Ok, ap, sym, ◌∙◌}
 use Rattle.std.specs.List.{list_any}
 use Rattle.std.specs.Str.{bytes_eq}

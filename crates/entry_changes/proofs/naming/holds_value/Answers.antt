@@ -1,3 +1,4 @@
+-- What search doesn't prove of `holds_value`: what it returns, by lemmas of `Held`.
 use Rattle.std.proofs.Common.{ℕ, List, ap, sym, ◌∙◌}
 use Rattle.dir_entry.specs.ldap_schema.Rules.{equality_of}
 use Rattle.entry_changes.specs.Editing.{holds}

@@ -1,3 +1,4 @@
+-- What search doesn't prove of `place`: what it returns, by lemmas of `Placed`.
 use Rattle.std.proofs.Common.{◌∙◌}
 use Rattle.entry_changes.proofs.Placed.{place_shown}
 use Rattle.entry_changes.proofs.naming.place.Goals as goal

@@ -1,3 +1,4 @@
+-- What search doesn't prove of `held`: what it returns, by lemmas of `Indexing`.
 use Rattle.std.proofs.Common.{ap, ◌∙◌}
 use Rattle.dir_entry.specs.Picked.{picked}
 use Rattle.entry_changes.proofs.Indexing.{same_attribute, three_ok}

@@ -1,3 +1,4 @@
+-- What search doesn't prove of `indexed_again`: what `newly_indexed` requires and what it returns, step by step.
 use Rattle.std.proofs.Common.{length, ap, sym, subst, ◌∙◌}
 use Rattle.std.proofs.lemmas.Result.{IfOk-weaker}
 use Rattle.dir_entry.specs.Entry.{KeyedAttribute}

@@ -1,3 +1,5 @@
+-- What search doesn't prove of `joined_by_index`: the clause `refused`, what `extended` requires, the clause `fresh`
+-- and the clause `keyed`, by lemmas of `Indexing`.
 use Rattle.std.proofs.Common.{refl, sym, ◌∙◌}
 use Rattle.entry_changes.proofs.Indexing.{some_held, long_given, joined_keyed}
 use Rattle.entry_changes.proofs.opened.joined_by_index.Goals as goal

@@ -1,3 +1,5 @@
+-- What search doesn't prove of `joined_by_search`: the clause `refused`, the clause `fresh` and the clause `keyed`, by
+-- lemmas of `Looked`.
 use Rattle.std.proofs.Common.{is_some, refl, sym, ap, ◌∙◌}
 use Rattle.dir_entry.specs.ldap_schema.Rules.{equality_of}
 use Rattle.entry_changes.proofs.Looked.{some_found, keyed_after}

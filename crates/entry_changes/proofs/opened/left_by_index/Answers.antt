@@ -1,3 +1,5 @@
+-- What search doesn't prove of `left_by_index`: the clause `refused`, the clause `values`, the clause `keyed` and the
+-- clause `held`, by lemmas of `Indexing`.
 use Rattle.std.proofs.Common.{not, refl, ap, sym, ◌∙◌}
 use Rattle.entry_changes.proofs.Indexing.{all_held, left_values, left_keyed}
 use Rattle.entry_changes.proofs.opened.left_by_index.Goals as goal

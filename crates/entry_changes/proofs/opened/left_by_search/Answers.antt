@@ -1,3 +1,5 @@
+-- What search doesn't prove of `left_by_search`: the clause `refused`, the clause `held`, the clause `values` and the
+-- clause `keyed`, by lemmas of `Looked`.
 use Rattle.std.proofs.Common.{is_some, not, refl, ap, sym, ◌∙◌}
 use Rattle.dir_entry.specs.ldap_schema.Rules.{equality_of}
 use Rattle.entry_changes.proofs.Looked.{all_found, values_found, keyed_marked}

@@ -1,3 +1,5 @@
+-- What search doesn't prove of `lessened`: the invariant, the clause `values` and the clause `octets`, by lemmas of
+-- `Indexing`.
 use Rattle.std.proofs.Common.{Bool, ap, sym, subst, ◌∙◌}
 use Rattle.entry_changes.specs.Opening.{since, octets_by, held_in}
 use Rattle.entry_changes.specs.private.Opening.{Fits}

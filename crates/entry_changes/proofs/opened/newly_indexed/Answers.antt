@@ -1,3 +1,4 @@
+-- What search doesn't prove of `newly_indexed`: what it returns, by lemmas of `Indexing`.
 use Rattle.std.proofs.Common.{refl}
 use Rattle.entry_changes.proofs.Indexing.{new_index}
 use Rattle.entry_changes.proofs.opened.newly_indexed.Goals as goal

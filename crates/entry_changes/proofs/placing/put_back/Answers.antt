@@ -1,3 +1,4 @@
+-- What search doesn't prove of `put_back`: the clause `shown` and the clause `keyed`, by lemmas of `Placed`.
 use Rattle.std.proofs.Common.{ap, ◌∙◌, subst, sym}
 use Rattle.std.proofs.lemmas.Result.{IfOk-weaker}
 use Rattle.dir_entry.specs.Entry.{attributes_of, IsKeyedBy}

@@ -1,3 +1,5 @@
+-- What search doesn't prove of `take_attribute`: the clause `others`, the clause `keyed`, the clause `kind`, the clause
+-- `keys` and others, by lemmas of `Placed`.
 use Rattle.std.proofs.Common.{ap, sym, subst, ◌∙◌}
 use Rattle.dir_entry.specs.Entry.{attributes_of, IsKeyedBy}
 use Rattle.entry_changes.proofs.Placed.{others_shown, keyed_others, kind_there, keys_there, values_at, there}

@@ -1,3 +1,4 @@
+-- What search doesn't prove of `has_all_of`: what it returns, by lemmas of `Reached`.
 use Rattle.std.proofs.Common.{ℕ, Bor, List, ◌∙◌}
 use Rattle.std.specs.List.{list_any}
 use Rattle.std.specs.Str.{bytes_eq}

@@ -1,3 +1,4 @@
+-- What search doesn't prove of `marks_without`: what it returns, by lemmas of `Looked`.
 use Rattle.std.proofs.Common.{ℕ, Bor, List, ◌∙◌}
 use Rattle.std.proofs.lemmas.Result.{IfOk-weaker}
 use Rattle.entry_changes.specs.Opening.{octets_by}

@@ -1,3 +1,4 @@
+-- What search doesn't prove of `place_since`: what it returns, by lemmas of `Reached`.
 use Rattle.std.proofs.Common.{◌∙◌}
 use Rattle.entry_changes.proofs.Reached.{since_lookup}
 use Rattle.entry_changes.proofs.since.place_since.Goals as goal

@@ -1,3 +1,4 @@
+-- What search doesn't prove of `put`: the clause `ok`, by lemmas of `Reached`.
 use Rattle.std.proofs.Common.{ℕ, List, Vec, Global, ap, ◌∙◌}
 use Rattle.entry_changes.specs.Opening.{since}
 use Rattle.entry_changes.proofs.Reached.{since_put}

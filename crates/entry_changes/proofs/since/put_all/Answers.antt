@@ -1,3 +1,4 @@
+-- What search doesn't prove of `put_all`: `loop-octets-preserved` and the clause `others`, by lemmas of `Reached`.
 use Rattle.std.proofs.Common.{ℕ, Bor, List, Some, Vec, Global, ap, ◌∙◌}
 use Rattle.std.specs.Str.{bytes_eq}
 use Rattle.entry_changes.specs.Opening.{since}

@@ -1,3 +1,4 @@
+-- What search doesn't prove of `take`: what it returns, by lemmas of `Reached`.
 use Rattle.entry_changes.proofs.Reached.{since_take}
 use Rattle.entry_changes.proofs.since.take.Goals as goal
 

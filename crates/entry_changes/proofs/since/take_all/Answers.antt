@@ -1,3 +1,4 @@
+-- What search doesn't prove of `take_all`: `loop-octets-preserved`, by lemmas of `Reached`.
 use Rattle.std.proofs.Common.{ℕ, Bor, List, None, refl}
 use Rattle.entry_changes.specs.Opening.{since}
 use Rattle.entry_changes.proofs.Reached.{since_more}

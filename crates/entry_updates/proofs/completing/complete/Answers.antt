@@ -1,3 +1,4 @@
+-- What search doesn't prove of `complete`: `loop-attribute-preserved`, by lemmas of `Completed`.
 use Rattle.entry_updates.proofs.Completed.{completed_more, keyed_more}
 use Rattle.entry_updates.proofs.completing.complete.Goals as goal
 

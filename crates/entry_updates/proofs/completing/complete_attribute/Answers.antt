@@ -1,3 +1,4 @@
+-- What search doesn't prove of `complete_attribute`: what `unreachable` requires, by lemmas of `Named` and `Completed`.
 use Rattle.std.proofs.Common.{ℕ, true, false, Vec, Global, Err, ap, sym, ◌∙◌, ◌≡◌, subst}
 use Rattle.dir_entry.specs.ldap_schema.ObjectClassType.{IsObjectClassType}
 use Rattle.entry_updates.proofs.Named.{classes_in_syntax}

@@ -1,3 +1,4 @@
+-- What search doesn't prove of `are_allowed`: what it returns, by lemmas of `Shown`.
 use Rattle.std.proofs.Common.{sym, ◌∙◌}
 use Rattle.entry_updates.proofs.Shown.{allowed_shown}
 use Rattle.entry_updates.proofs.obeying.are_allowed.Goals as goal

@@ -1,3 +1,4 @@
+-- What search doesn't prove of `has_object_class`: what it returns, by lemmas of `Shown`.
 use Rattle.std.proofs.Common.{sym, ◌∙◌}
 use Rattle.entry_updates.proofs.Shown.{classed_shown}
 use Rattle.entry_updates.proofs.obeying.has_object_class.Goals as goal

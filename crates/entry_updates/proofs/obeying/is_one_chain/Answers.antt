@@ -1,3 +1,4 @@
+-- What search doesn't prove of `is_one_chain`: what it returns, by lemmas of `Chained`.
 use Rattle.std.proofs.Common.{sym, ◌∙◌}
 use Rattle.std.proofs.lemmas.Result.{IfOk-weaker}
 use Rattle.entry_updates.proofs.Chained.{chained}

@@ -1,3 +1,5 @@
+-- What search doesn't prove of `copy_out`: the clause `octets`, `loop-piece-preserved` and the clause `whole`, by
+-- lemmas of `Copied`.
 use Rattle.std.proofs.Common.{length, drop, eq-eqb, arith, length-drop}
 use Rattle.file_device.specs.private.Pieces.{octets_in}
 use Rattle.file_device.proofs.Copied.{full_then, done_then, whole_copied}

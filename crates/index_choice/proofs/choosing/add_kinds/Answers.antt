@@ -1,3 +1,4 @@
+-- What search doesn't prove of `add_kinds`: the clause `ok`, by lemmas of `Settings`.
 use Rattle.std.proofs.Common.{◌≡◌, ℕ, ◌<◌, length, List, cond, nat_eq, sym, ap, ◌∙◌}
 use Rattle.index_choice.specs.declared.kinds.Kinds.{Kinds}
 use Rattle.index_choice.specs.Choice.{kinds_of}

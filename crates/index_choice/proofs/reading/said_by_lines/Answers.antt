@@ -1,3 +1,4 @@
+-- What search doesn't prove of `said_by_lines`: the clause `refused`, step by step.
 use Rattle.std.proofs.Common.{◌≡◌, ℕ, ◌+◌, ◌<◌, Bor, length, get_or, List, [], Result, map, drop, sym, ap, ◌∙◌, subst}
 use Rattle.std.proofs.lemmas.Result.{err_from_is_err_and}
 use Rattle.std.proofs.lemmas.List.{at_drop_more}

@@ -1,3 +1,4 @@
+-- What search doesn't prove of `listed_more`: the clause `lists`, by lemmas of `Listed`.
 use Rattle.std.proofs.Common.{refl}
 use Rattle.indexed_tree.specs.Listed.{listed_of}
 use Rattle.indexed_tree.proofs.Listed.{of_same, listed_below}

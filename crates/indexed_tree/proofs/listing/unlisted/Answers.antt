@@ -1,3 +1,4 @@
+-- What search doesn't prove of `unlisted`: the clause `lists`, by lemmas of `Listed`.
 use Rattle.std.proofs.Common.{refl, sym, ap, subst, List}
 use Rattle.dir_index.specs.dir_entry.Entry.{KeyedAttribute}
 use Rattle.dir_index.specs.Whole.{HasEntry, without}

@@ -1,3 +1,4 @@
+-- What search doesn't prove of `crashed_image`: what `after_call` requires, by lemmas of `Mixing`.
 use Rattle.std.proofs.Common.{List, ℕ, sym, ap, ◌∙◌, subst, arith, length, map, reverse, take}
 use Rattle.journal.specs.Memory.{event}
 use Rattle.journal.specs.private.Memory.{FitsIn}

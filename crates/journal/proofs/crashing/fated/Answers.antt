@@ -1,3 +1,4 @@
+-- What search doesn't prove of `fated`: what it returns, by lemmas of `Mixing`.
 use Rattle.std.proofs.Common.{List, ℕ, sym, subst}
 use Rattle.std.proofs.lemmas.Result.{IfOk-weaker}
 use Rattle.journal.specs.Device.{Mixed}

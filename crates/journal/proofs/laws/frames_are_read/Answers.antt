@@ -1,3 +1,4 @@
+-- What search doesn't prove of `frames_are_read`: what it returns, by lemmas of `Torn`.
 use Rattle.journal.specs.Frames.{frames}
 use Rattle.journal.proofs.Torn.{many, frames_first, recorded_is}
 use Rattle.journal.proofs.laws.frames_are_read.Goals as goal

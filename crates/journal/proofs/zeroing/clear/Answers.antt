@@ -1,3 +1,5 @@
+-- What search doesn't prove of `clear`: what `clear_rest` requires, the clause `any_moment` and the clause `settled`,
+-- by lemmas of `Clearing` and `Moments`.
 use Rattle.std.proofs.Common.{◌≡◌, ◌-◌, List, ℕ, min, refl, subst, arith}
 use Rattle.journal.specs.Device.{LeavesOnly}
 use Rattle.journal.specs.Frames.{recorded}

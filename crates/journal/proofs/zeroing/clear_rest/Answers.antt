@@ -1,3 +1,5 @@
+-- What search doesn't prove of `clear_rest`: the clause `any_moment`, `loop-done-preserved` and the clause `settled`,
+-- by lemmas of `Clearing` and `Moments`.
 use Rattle.std.proofs.Common.{◌≡◌, ◌+◌, List, ℕ, take, refl, sym, subst, arith}
 use Rattle.journal.specs.Device.{Only}
 use Rattle.journal.specs.Frames.{recorded}

@@ -1,3 +1,4 @@
+-- What search doesn't prove of `lines_in`: `loop-piece-init`, by lemmas of `OneByOne`.
 use Rattle.std.proofs.Common.{ℕ, Bor, List, nat_eq, ap₂, ◌∙◌}
 use Rattle.std.specs.List.{slice_split}
 use Rattle.ldif.specs.Records.{ValueModel}

@@ -1,3 +1,4 @@
+-- What search doesn't prove of `cut_pair`: `loop-at-preserved`, by lemmas of `Pairs`.
 use Rattle.std.proofs.Common.{sym, ap, ◌∙◌}
 use Rattle.lab_script.specs.Cuts.{begins_value}
 use Rattle.lab_script.proofs.Pairs.{pair_more, all_behind}

@@ -1,3 +1,4 @@
+-- What search doesn't prove of `one_update`: what it returns, by lemmas of `Unique`.
 use Rattle.lab_script.specs.Updates.{kind_of}
 use Rattle.lab_script.proofs.Unique.{one_of}
 use Rattle.lab_script.proofs.laws.one_update.Goals as goal

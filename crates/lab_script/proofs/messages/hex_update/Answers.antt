@@ -1,3 +1,4 @@
+-- What search doesn't prove of `hex_update`: the clause `bad`, by lemmas of `NoText`.
 use Rattle.std.proofs.Common.{Ok, ap, sym, ◌∙◌}
 use Rattle.lab_script.proofs.NoText.{no_hex}
 use Rattle.lab_script.proofs.messages.hex_update.Goals as goal

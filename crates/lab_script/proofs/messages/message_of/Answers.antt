@@ -1,3 +1,4 @@
+-- What search doesn't prove of `message_of`: the clause `only` and the clause `bad`, step by step.
 use Rattle.std.proofs.Common.{sym, ◌∙◌}
 use Rattle.lab_script.proofs.messages.message_of.Goals as goal
 

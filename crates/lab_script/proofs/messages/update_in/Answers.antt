@@ -1,3 +1,4 @@
+-- What search doesn't prove of `update_in`: the clause `bad`, by lemmas of `NoText`.
 use Rattle.std.proofs.Common.{◌≡◌, Err, ap}
 use Rattle.ldif.specs.ldap_msg.View.{view}
 use Rattle.lab_script.specs.declared.text_fault.TextError.TheVariants.{BadText}

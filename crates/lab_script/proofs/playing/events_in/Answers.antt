@@ -1,3 +1,4 @@
+-- What search doesn't prove of `events_in`: `loop-at-preserved`, by lemmas of `Each` and `Lines`.
 use Rattle.std.proofs.Common.{ℕ, List, subst}
 use Rattle.lab_script.specs.Lines.{IsLine}
 use Rattle.lab_script.proofs.Each.{views}

@@ -1,3 +1,4 @@
+-- What search doesn't prove of `play`: the clause `shown`, by lemmas of `Each` and `Sizes`.
 use Rattle.std.proofs.Common.{ℕ, map, sym, ap, subst}
 use Rattle.std.specs.Arc.{arc_value}
 use Rattle.dir_lab.specs.Shown.{shown_view}

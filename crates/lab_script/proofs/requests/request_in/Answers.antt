@@ -1,3 +1,4 @@
+-- What search doesn't prove of `request_in`: the clause `bad`, by lemmas of `Refusals`.
 use Rattle.lab_script.proofs.Refusals.{no_request}
 use Rattle.lab_script.proofs.requests.request_in.Goals as goal
 

@@ -1,3 +1,4 @@
+-- What search doesn't prove of `read_search_line`: the clause `bad`, by lemmas of `Refusals`.
 use Rattle.std.proofs.Common.{◌≡◌, Err, ap}
 use Rattle.lab_script.specs.Lines.{IsSearch}
 use Rattle.lab_script.specs.declared.fault.LineError.TheVariants.{BadLine}

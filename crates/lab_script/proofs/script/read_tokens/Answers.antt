@@ -1,3 +1,4 @@
+-- What search doesn't prove of `read_tokens`: `loop-word-init`, by lemmas of `OneByOne`.
 use Rattle.std.proofs.Common.{ℕ, Bor, List, ap₂, ◌∙◌}
 use Rattle.lab_script.specs.Each.{all_of}
 use Rattle.lab_script.proofs.OneByOne.{after, texts_begin}

@@ -1,3 +1,4 @@
+-- What search doesn't prove of `read_search`: the clause `bad`, by lemmas of `NoText`.
 use Rattle.lab_script.proofs.NoText.{no_search}
 use Rattle.lab_script.proofs.search_texts.read_search.Goals as goal
 

@@ -1,3 +1,4 @@
+-- What search doesn't prove of `search_in`: the clause `bad`, by lemmas of `Refusals`.
 use Rattle.lab_script.proofs.Refusals.{no_search}
 use Rattle.lab_script.proofs.searches.search_in.Goals as goal
 

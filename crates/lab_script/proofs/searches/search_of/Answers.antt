@@ -1,3 +1,4 @@
+-- What search doesn't prove of `search_of`: the clause `bad`, by lemmas of `Refusals`.
 use Rattle.std.proofs.Common.{◌≡◌, Err, ap}
 use Rattle.lab_script.specs.declared.fault.LineError.TheVariants.{BadLine}
 use Rattle.lab_script.proofs.Refusals.{no_text}

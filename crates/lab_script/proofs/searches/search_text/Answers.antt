@@ -1,3 +1,4 @@
+-- What search doesn't prove of `search_text`: the clause `bad`, step by step.
 use Rattle.std.proofs.Common.{Err, ap}
 use Rattle.lab_script.proofs.searches.search_text.Goals as goal
 

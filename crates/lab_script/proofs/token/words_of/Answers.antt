@@ -1,3 +1,4 @@
+-- What search doesn't prove of `words_of`: what it returns, step by step.
 use Rattle.std.proofs.Common.{◌==◌, rules}
 use Rattle.std.proofs.lemmas.Iterator.Consumers.{map_from_collect}
 use Rattle.std.proofs.lemmas.Iterator.Splits.{YieldsList-from_slice_split}

@@ -1,3 +1,4 @@
+-- What search doesn't prove of `pieces_are_parted`: what it returns, by lemmas of `Parted`.
 use Rattle.ldap_dn.proofs.Parted.{parts_parted}
 use Rattle.ldap_dn.proofs.cutting.pieces_are_parted.Goals as goal
 

@@ -1,3 +1,4 @@
+-- What search doesn't prove of `name_keys_are_of_names`: what it returns, by lemmas of `KeysTold`.
 use Rattle.ldap_dn.proofs.KeysTold.{keys_of_names}
 use Rattle.ldap_dn.proofs.keying.name_keys_are_of_names.Goals as goal
 

@@ -1,3 +1,4 @@
+-- What search doesn't prove of `put_number`: `loop-left-preserved`, by lemmas of `KeysTold`.
 use Rattle.std.proofs.Common.{arith}
 use Rattle.std.proofs.lemmas.Grind.{common_steps}
 use Rattle.ldap_dn.proofs.KeysTold.{digit_more}

@@ -1,3 +1,4 @@
+-- What search doesn't prove of `put_octets`: `loop-octet-preserved` and the clause `kept`, by lemmas of `KeysMade`.
 use Rattle.std.proofs.Common.{refl}
 use Rattle.ldap_dn.specs.NameKeys.{listed, itself}
 use Rattle.ldap_dn.proofs.KeysMade.{kept_same, kept_more, one_more}

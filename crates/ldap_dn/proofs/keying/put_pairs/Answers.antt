@@ -1,3 +1,4 @@
+-- What search doesn't prove of `put_pairs`: `loop-pair-preserved` and the clause `kept`, by lemmas of `KeysMade`.
 use Rattle.std.proofs.Common.{◌++◌, ◌∙◌, ap, refl}
 use Rattle.ldap_dn.specs.Names.{TypeAndKey}
 use Rattle.ldap_dn.specs.NameKeys.{listed, pair_octets}

@@ -1,3 +1,4 @@
+-- What search doesn't prove of `put_rdns`: `loop-rdn-preserved` and the clause `kept`, by lemmas of `KeysMade`.
 use Rattle.std.proofs.Common.{List, ◌++◌, ◌∙◌, map, ap, refl}
 use Rattle.ldap_dn.specs.Names.{RdnModel}
 use Rattle.ldap_dn.specs.NameKeys.{listed, pair_octets}

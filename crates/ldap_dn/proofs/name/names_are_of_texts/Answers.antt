@@ -1,3 +1,4 @@
+-- What search doesn't prove of `names_are_of_texts`: what it returns, by lemmas of `NameTexts`.
 use Rattle.ldap_dn.proofs.NameTexts.{names_of_texts}
 use Rattle.ldap_dn.proofs.name.names_are_of_texts.Goals as goal
 

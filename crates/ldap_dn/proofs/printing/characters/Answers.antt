@@ -1,3 +1,4 @@
+-- What search doesn't prove of `characters`: what it returns, step by step.
 use Rattle.std.proofs.lemmas.Iterator.{items_from_collect, YieldsList-from_chars}
 use Rattle.ldap_dn.proofs.printing.characters.Goals as goal
 

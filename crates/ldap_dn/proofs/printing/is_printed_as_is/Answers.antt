@@ -1,3 +1,4 @@
+-- What search doesn't prove of `is_printed_as_is`: what it returns, by lemmas of `Plain`.
 use Rattle.std.proofs.Common.{ℕ, ◌-◌, List, length, slice_get, ap, sym, ◌∙◌, subst, ◌≡◌, true}
 use Rattle.std.specs.Option.{option_copied}
 use Rattle.std.specs.List.{list_all}

@@ -1,3 +1,4 @@
+-- What search doesn't prove of `meant_key`: the clause `found`, by lemmas of `Keys`.
 use Rattle.std.proofs.Common.{Ok, Err, ◌≡◌, sym, ◌∙◌}
 use Rattle.ldap_dn.proofs.Keys.{meant_found}
 use Rattle.ldap_dn.proofs.reading.meant_key.Goals as goal

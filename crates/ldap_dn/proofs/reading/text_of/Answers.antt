@@ -1,3 +1,4 @@
+-- What search doesn't prove of `text_of`: the clause `found` and the clause `refused`, by lemmas of `Keys`.
 use Rattle.std.proofs.Common.{ap}
 use Rattle.std.proofs.lemmas.Str.{IsUtf8-string_bytes}
 use Rattle.ldap_dn.proofs.Keys.{text_found, text_missing, err_not_ok}

@@ -1,3 +1,5 @@
+-- What search doesn't prove of `+bind`: the clause `value`, the clause `parts` and `bind_all-loop-filter-preserved`, by
+-- lemmas of `Rows` and `Made`.
 use Rattle.std.proofs.Common.{inl, inr}
 use Rattle.std.proofs.lemmas.Result.{IfOk-weaker}
 use Rattle.ldap_eval.proofs.Rows.{and_bound, or_bound, bound_more, at_least_bound, at_most_bound, present_bound, substrings_bound, equal_bound, approx_bound}

@@ -1,3 +1,4 @@
+-- What search doesn't prove of `bind_item`: the clause `value` and the clause `parts`, by lemmas of `Items` and `Made`.
 use Rattle.std.proofs.Common.{sym, ◌∙◌}
 use Rattle.std.proofs.lemmas.Result.{IfOk-weaker}
 use Rattle.ldap_eval.specs.private.Asked.{item_of}

@@ -1,3 +1,5 @@
+-- What search doesn't prove of `bind_match`: the clause `value` and the clause `parts`, by lemmas of `Matches` and
+-- `Made`.
 use Rattle.std.proofs.Common.{sym, ◌∙◌}
 use Rattle.ldap_eval.proofs.Matches.{MatchLaws, bound_matches, bound_unmatched}
 use Rattle.ldap_eval.proofs.Made.{matches_made, unmatched_made}

@@ -1,3 +1,5 @@
+-- What search doesn't prove of `bind_named`: the clause `value` and the clause `parts`, by lemmas of `Matches` and
+-- `Made`.
 use Rattle.std.proofs.Common.{Some, sym, ◌∙◌}
 use Rattle.std.proofs.lemmas.Result.{IfOk-weaker}
 use Rattle.ldap_filter.specs.ItemView.{extensible_view}

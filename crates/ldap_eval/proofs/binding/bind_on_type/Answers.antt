@@ -1,3 +1,5 @@
+-- What search doesn't prove of `bind_on_type`: the clause `value` and the clause `parts`, by lemmas of `Items` and
+-- `Made`.
 use Rattle.std.proofs.Common.{sym, ◌∙◌}
 use Rattle.ldap_eval.specs.private.Asked.{item_of}
 use Rattle.ldap_eval.proofs.Items.{leaves_item, unanswered_item}

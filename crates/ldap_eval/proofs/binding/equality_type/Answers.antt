@@ -1,3 +1,4 @@
+-- What search doesn't prove of `equality_type`: the clause `some` and the clause `none`, by lemmas of `Matches`.
 use Rattle.std.proofs.Common.{Some, true, false, ◌≡◌, sym, subst, ◌∙◌}
 use Rattle.ldap_filter.specs.ItemView.{extensible_view}
 use Rattle.ldap_eval.specs.declared.naming_rules.How.{How}

@@ -1,3 +1,5 @@
+-- What search doesn't prove of `is_matched_somewhere`: `loop-number-preserved` and what it returns, by lemmas of
+-- `Matches`.
 use Rattle.std.proofs.Common.{ℕ, ◌<◌, ◌≤◌, ◌||◌, Bool, true, false, Some, Option, suc, length, drop, slice_get, ap, sym, subst, ◌∙◌, ◌≡◌, add-one, arith}
 use Rattle.std.proofs.lemmas.List.{drop_all}
 use Rattle.std.specs.List.{list_any}

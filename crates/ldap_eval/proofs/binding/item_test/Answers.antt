@@ -1,3 +1,4 @@
+-- What search doesn't prove of `item_test`: what it returns, step by step.
 use Rattle.ldap_eval.proofs.binding.item_test.Goals as goal
 
 pub returns-in-Substrings : goal.returns-in-Substrings

@@ -1,3 +1,4 @@
+-- What search doesn't prove of `leaves`: `loop-number-preserved`, by lemmas of `Items`.
 use Rattle.std.proofs.Common.{Vec, Global, ◌++◌, ap, ap₂, ◌∙◌, subst, ℕ, ◌+◌, ◌<◌, drop, length}
 use Rattle.dir_entry.specs.ldap_schema.Schema.{is_under}
 use Rattle.dir_entry.specs.ldap_match.Keyed.{test_for}

@@ -1,3 +1,4 @@
+-- What search doesn't prove of `push_matches`: `loop-number-preserved`, by lemmas of `Matches`.
 use Rattle.std.proofs.Common.{Vec, Global, ◌++◌, ap, ap₂, ◌∙◌, subst, ℕ, ◌+◌, ◌<◌, drop, length}
 use Rattle.ldap_eval.specs.Matched.{match_for}
 use Rattle.ldap_eval.specs.declared.matching.MatchTest.{MatchTest}

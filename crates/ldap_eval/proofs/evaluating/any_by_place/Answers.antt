@@ -1,3 +1,5 @@
+-- What search doesn't prove of `any_by_place`: `loop-at-preserved` and what it returns, by lemmas of `Truths` and
+-- `Named`.
 use Rattle.std.proofs.Common.{ℕ, ◌<◌, ◌≤◌, List, map, length, drop, ap, sym, subst, ◌∙◌, add-one, arith}
 use Rattle.std.proofs.lemmas.List.{drop_all}
 use Rattle.dir_entry.specs.ldap_dn.Names.{RdnModel}

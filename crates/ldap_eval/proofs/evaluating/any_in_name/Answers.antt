@@ -1,3 +1,4 @@
+-- What search doesn't prove of `any_in_name`: `loop-above-preserved`, by lemmas of `Named`.
 use Rattle.std.proofs.Common.{ℕ, List}
 use Rattle.dir_entry.specs.ldap_dn.Names.{RdnModel}
 use Rattle.dir_entry.specs.ldap_dn.Pairs.{pairs_of}

@@ -1,3 +1,4 @@
+-- What search doesn't prove of `any_in_rdn`: what it returns, by lemmas of `Named`.
 use Rattle.std.proofs.Common.{List, map, ap, sym, ◌∙◌}
 use Rattle.dir_entry.specs.ldap_dn.Names.{TypeAndValue}
 use Rattle.dir_entry.specs.ldap_dn.Pairs.{pair_in}

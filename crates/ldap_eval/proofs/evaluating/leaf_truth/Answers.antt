@@ -1,3 +1,4 @@
+-- What search doesn't prove of `leaf_truth`: what it returns and `loop-place-preserved`, by lemmas of `Leaves`.
 use Rattle.std.proofs.Common.{rules, ◌≡◌, ◌+◌, ◌<◌, List, map, drop, length, sym, ap, subst, ◌∙◌}
 use Rattle.dir_entry.specs.Entry.{KeyedAttribute}
 use Rattle.dir_entry.specs.ldap_match.Truth.{truth_or, disjunction}

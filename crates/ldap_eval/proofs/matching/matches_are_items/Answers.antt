@@ -1,3 +1,5 @@
+-- What search doesn't prove of `matches_are_items`: the clause `values` and the clause `pairs`, by lemmas of
+-- `MatchValues` and `Items` (`dir_entry`).
 use Rattle.dir_entry.proofs.ldap_match.Items.{KeyLaws, keys_mean}
 use Rattle.ldap_eval.proofs.MatchValues.{on_values, on_pair}
 use Rattle.ldap_eval.proofs.matching.matches_are_items.Goals as goal

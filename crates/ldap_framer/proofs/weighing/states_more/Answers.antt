@@ -1,3 +1,4 @@
+-- What search doesn't prove of `states_more`: the clause `no`, by lemmas of `Weighed`.
 use Rattle.std.proofs.Common.{arith}
 use Rattle.ldap_framer.proofs.Weighed.{unless_more}
 use Rattle.ldap_framer.proofs.weighing.states_more.Goals as goal

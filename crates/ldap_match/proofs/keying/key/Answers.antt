@@ -1,3 +1,4 @@
+-- What search doesn't prove of `key`: what it returns, by lemmas of `Plain`.
 use Rattle.std.proofs.Common.{sym, ◌∙◌}
 use Rattle.std.proofs.lemmas.Result.{IfOk-weaker}
 use Rattle.ldap_match.specs.Meaning.{meaning}

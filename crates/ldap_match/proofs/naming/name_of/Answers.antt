@@ -1,3 +1,4 @@
+-- What search doesn't prove of `name_of`: the clause `refused`, by lemmas of `Named`.
 use Rattle.ldap_match.proofs.Named.{octets_not_named}
 use Rattle.ldap_match.proofs.naming.name_of.Goals as goal
 

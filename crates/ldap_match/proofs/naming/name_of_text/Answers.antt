@@ -1,3 +1,4 @@
+-- What search doesn't prove of `name_of_text`: the clause `found`, by lemmas of `Named`.
 use Rattle.ldap_match.proofs.Named.{text_named}
 use Rattle.ldap_match.proofs.naming.name_of_text.Goals as goal
 

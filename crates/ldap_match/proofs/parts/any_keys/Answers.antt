@@ -1,3 +1,4 @@
+-- What search doesn't prove of `any_keys`: the clause `key`, by lemmas of `Keys`.
 use Rattle.std.proofs.Common.{map, ap, arith}
 use Rattle.std.proofs.lemmas.List.{drop_all}
 use Rattle.ldap_match.proofs.Keys.{all_keys}

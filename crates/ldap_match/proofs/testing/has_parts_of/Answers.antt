@@ -1,3 +1,4 @@
+-- What search doesn't prove of `has_parts_of`: what it returns, by lemmas of `Items`.
 use Rattle.std.proofs.Common.{Err, ap, sym, ◌∙◌}
 use Rattle.ldap_match.proofs.Items.{parts_answer, parts_do_not_answer}
 use Rattle.ldap_match.proofs.testing.has_parts_of.Goals as goal

@@ -1,3 +1,4 @@
+-- What search doesn't prove of `key_or_none`: what it returns, by lemmas of `Items`.
 use Rattle.std.proofs.Common.{ap, ◌∙◌, Err}
 use Rattle.ldap_match.proofs.Items.{no_key}
 use Rattle.ldap_match.proofs.testing.key_or_none.Goals as goal

@@ -1,3 +1,4 @@
+-- What search doesn't prove of `tests_are_items`: what it returns, by lemmas of `Items`.
 use Rattle.ldap_match.proofs.Items.{KeyLaws, keys_mean, tests_item}
 use Rattle.ldap_match.proofs.testing.tests_are_items.Goals as goal
 

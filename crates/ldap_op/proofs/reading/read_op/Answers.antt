@@ -1,3 +1,4 @@
+-- What search doesn't prove of `read_op`: the clause `only`, step by step.
 use Rattle.std.proofs.Common.{◌∙◌}
 use Rattle.ldap_op.proofs.reading.read_op.Goals as goal
 

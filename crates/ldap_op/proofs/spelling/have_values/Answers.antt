@@ -1,3 +1,5 @@
+-- What search doesn't prove of `have_values`: `loop-attribute-preserved`, the clause `in_range` and the clause `lacks`,
+-- by lemmas of `Texts`.
 use Rattle.std.proofs.Common.{ℕ, List, subst, sym, ◌∙◌}
 use Rattle.std.specs.Str.{IsUtf8}
 use Rattle.ldap_parts.specs.View.{attribute_view}

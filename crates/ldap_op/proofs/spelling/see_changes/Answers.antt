@@ -1,3 +1,4 @@
+-- What search doesn't prove of `see_changes`: `loop-change-preserved` and what it returns, by lemmas of `Texts`.
 use Rattle.std.proofs.Common.{ℕ, List, subst}
 use Rattle.std.specs.Str.{IsUtf8}
 use Rattle.ldap_parts.specs.UpdateView.{change_view}

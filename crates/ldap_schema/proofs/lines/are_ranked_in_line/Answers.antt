@@ -1,3 +1,4 @@
+-- What search doesn't prove of `are_ranked_in_line`: what it returns, by lemmas of `Ordered` and `Ranked`.
 use Rattle.std.proofs.Common.{ℕ, List, sym, subst, ◌∙◌}
 use Rattle.std.specs.List.Sorted.{IsPermutation, IsNonDecreasingBy}
 use Rattle.std.proofs.lemmas.Result.{IfOk-weaker}

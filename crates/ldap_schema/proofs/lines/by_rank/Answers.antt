@@ -1,3 +1,4 @@
+-- What search doesn't prove of `by_rank`: the clause `rising`, step by step.
 use Rattle.std.proofs.Common.{rules}
 use Rattle.std.proofs.lemmas.List.Sorted.{IsNonDecreasingBy-from_sort_by_key}
 use Rattle.ldap_schema.specs.Lines.{rank_in}

@@ -1,3 +1,4 @@
+-- What search doesn't prove of `gather_high`: `loop-place-preserved`, by lemmas of `Ranked`.
 use Rattle.std.proofs.Common.{◌+◌, length, sym, ◌∙◌}
 use Rattle.ldap_schema.proofs.Ranked.{cut_goes_on}
 use Rattle.ldap_schema.proofs.lines.gather_high.Goals as goal

@@ -1,3 +1,4 @@
+-- What search doesn't prove of `is_under`: what it returns, by lemmas of `Ranked`.
 use Rattle.std.proofs.Common.{ℕ, List, ap, sym, ◌∙◌}
 use Rattle.ldap_schema.specs.Superclasses.{is_among}
 use Rattle.ldap_schema.proofs.Ranked.{direct_under, under_cut}

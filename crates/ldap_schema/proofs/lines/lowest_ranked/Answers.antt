@@ -1,3 +1,4 @@
+-- What search doesn't prove of `lowest_ranked`: what it returns, by lemmas of `Ordered` and `Ranked`.
 use Rattle.std.proofs.Common.{◌∙◌}
 use Rattle.std.proofs.lemmas.Result.{IfOk-weaker}
 use Rattle.ldap_schema.specs.private.Lines.{is_under_in}

@@ -1,3 +1,4 @@
+-- What search doesn't prove of `is_called`: what it returns, by lemmas of `Steps`.
 use Rattle.std.proofs.Common.{ap, sym, ◌∙◌}
 use Rattle.std.specs.Str.{bytes_eq}
 use Rattle.std.specs.String.{string_bytes}

@@ -1,3 +1,4 @@
+-- What search doesn't prove of `are_ranks`: `loop-number-preserved` and what it returns, by lemmas of `Ranked`.
 use Rattle.std.proofs.Common.{sym, ◌∙◌}
 use Rattle.ldap_schema.proofs.Ranked.{ranking_more, ranking_whole}
 use Rattle.ldap_schema.proofs.ranking.are_ranks.Goals as goal

@@ -1,3 +1,4 @@
+-- What search doesn't prove of `gather`: `loop-place-preserved`, by lemmas of `Filling`.
 use Rattle.std.proofs.Common.{◌+◌, length, sym, ◌∙◌}
 use Rattle.ldap_schema.proofs.Filling.{fill_step}
 use Rattle.ldap_schema.proofs.superclasses.gather.Goals as goal

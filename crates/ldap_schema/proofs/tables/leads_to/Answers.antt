@@ -1,3 +1,4 @@
+-- What search doesn't prove of `leads_to`: `loop-preserved`, by lemmas of `Steps`.
 use Rattle.std.proofs.Common.{length, sym, ◌∙◌}
 use Rattle.ldap_schema.proofs.Steps.{sought_up}
 use Rattle.ldap_schema.proofs.tables.leads_to.Goals as goal

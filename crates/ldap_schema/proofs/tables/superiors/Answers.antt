@@ -1,3 +1,4 @@
+-- What search doesn't prove of `superiors`: `loop-init`, what it returns and `loop-preserved`, by lemmas of `Steps`.
 use Rattle.std.proofs.Common.{ℕ, List, ◌++◌, ◌-◌, length, ap, sym, ◌∙◌, arith}
 use Rattle.ldap_schema.specs.Schema.{superiors}
 use Rattle.ldap_schema.proofs.Steps.{step_up, no_way_up, no_more, without_rest}

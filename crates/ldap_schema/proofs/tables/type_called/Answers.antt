@@ -1,3 +1,5 @@
+-- What search doesn't prove of `type_called`: `loop-number-init`, what it returns and `loop-number-preserved`, by
+-- lemmas of `Steps`.
 use Rattle.std.proofs.Common.{ℕ, List, Bool, true, false, Some, ap, ap₂, sym, ◌∙◌, ◌≡◌, refl}
 use Rattle.std.proofs.Math.ListN.{drop_of_length-le}
 use Rattle.std.specs.List.{position_from}

@@ -1,3 +1,4 @@
+-- What search doesn't prove of `put_behind`: what it returns, by lemmas of `Kept`.
 use Rattle.std.proofs.Common.{List, ℕ, sym, ap, ◌∙◌, ◌++◌}
 use Rattle.ldap_session.proofs.Kept.{none_grown, all_grown, filled}
 use Rattle.ldap_session.proofs.conversation.put_behind.Goals as goal

@@ -1,3 +1,4 @@
+-- What search doesn't prove of `conversation_begins`: what it returns, by lemmas of `Conversed`.
 use Rattle.ldap_session.proofs.Conversed.{begins}
 use Rattle.ldap_session.proofs.laws.conversation_begins.Goals as goal
 

@@ -1,3 +1,4 @@
+-- What search doesn't prove of `conversation_listens`: what it returns, by lemmas of `Conversed`.
 use Rattle.ldap_session.proofs.Conversed.{listens}
 use Rattle.ldap_session.proofs.laws.conversation_listens.Goals as goal
 

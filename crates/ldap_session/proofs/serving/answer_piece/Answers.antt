@@ -1,3 +1,4 @@
+-- What search doesn't prove of `answer_piece`: the clause `fed`, by lemmas of `Served`.
 use Rattle.session_handler.specs.View.{config_view}
 use Rattle.ldap_session.specs.View.{conversation_view}
 use Rattle.ldap_session.proofs.Served.{not_fed, fed}

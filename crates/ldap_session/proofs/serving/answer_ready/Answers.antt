@@ -1,3 +1,5 @@
+-- What search doesn't prove of `answer_ready`: the clause `worked` and `loop-writer-preserved`, by lemmas of `Kept` and
+-- `Worked`.
 use Rattle.std.proofs.Common.{Bool, sym, subst, ap, ◌∙◌}
 use Rattle.session_handler.specs.View.{config_view}
 use Rattle.ldap_session.specs.Octets.{HasWritten}

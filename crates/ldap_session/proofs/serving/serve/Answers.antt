@@ -1,3 +1,4 @@
+-- What search doesn't prove of `serve`: `loop-init`, what it returns and `loop-preserved`, by lemmas of `Served`.
 use Rattle.std.proofs.Common.{subst}
 use Rattle.std.proofs.KnownBytes.{Consumes-nil}
 use Rattle.session_handler.specs.View.{config_view}

@@ -1,3 +1,5 @@
+-- What search doesn't prove of `write_octets`: `loop-init`, what it returns and `loop-preserved`, by lemmas of
+-- `Written`.
 use Rattle.std.proofs.Common.{sym, ◌∙◌}
 use Rattle.ldap_session.proofs.Written.{no_octets, begun, all_written, given_up, some_more, out_of_turns}
 use Rattle.ldap_session.proofs.writing.write_octets.Goals as goal

@@ -1,3 +1,4 @@
+-- What search doesn't prove of `text_of`: what it returns, step by step.
 use Rattle.std.proofs.Common.{Bool, true, false, ◌≡◌, refl, ap}
 use Rattle.std.proofs.lemmas.Str.{is_utf8-from_IsUtf8, IsUtf8-from_is_utf8}
 use Rattle.std.specs.Str.{is_utf8}

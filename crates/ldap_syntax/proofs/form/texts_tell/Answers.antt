@@ -1,3 +1,4 @@
+-- What search doesn't prove of `texts_tell`: what it returns, by lemmas of `Told`.
 use Rattle.ldap_syntax.proofs.Told.{told}
 use Rattle.ldap_syntax.proofs.form.texts_tell.Goals as goal
 

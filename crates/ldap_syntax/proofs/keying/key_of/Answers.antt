@@ -1,3 +1,4 @@
+-- What search doesn't prove of `key_of`: the clause `not_in_syntax` and the clause `key`, by lemmas of `Present`.
 use Rattle.std.proofs.Common.{Some, ap, sym, refl, ◌∙◌}
 use Rattle.ldap_syntax.specs.Meaning.{meaning}
 use Rattle.ldap_syntax.proofs.Present.{none_is, integer_key, plain_key}

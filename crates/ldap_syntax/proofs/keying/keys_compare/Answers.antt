@@ -1,3 +1,5 @@
+-- What search doesn't prove of `keys_compare`: the clause `present`, the clause `equal` and the clause `ordered`, by
+-- lemmas of `Compare`.
 use Rattle.ldap_syntax.proofs.Compare.{keys_are_present, keys_are_equal, keys_are_ordered}
 use Rattle.ldap_syntax.proofs.keying.keys_compare.Goals as goal
 

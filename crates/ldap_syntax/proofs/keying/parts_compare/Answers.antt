@@ -1,3 +1,4 @@
+-- What search doesn't prove of `parts_compare`: what it returns, by lemmas of `Compare`.
 use Rattle.ldap_syntax.proofs.Compare.{parts_stand}
 use Rattle.ldap_syntax.proofs.keying.parts_compare.Goals as goal
 

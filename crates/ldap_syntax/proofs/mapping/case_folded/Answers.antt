@@ -1,3 +1,5 @@
+-- What search doesn't prove of `case_folded`: what it returns, by lemmas of `IterLemmas` (`unicode_normalization`) and
+-- `CaselessLemmas` (`caseless`).
 use Rattle.std.proofs.Common.{rules}
 use Rattle.std.proofs.iter.Yields.{fronts, copies}
 use Rattle.std.proofs.lemmas.Iterator.{items_from_collect}

@@ -1,3 +1,4 @@
+-- What search doesn't prove of `folded`: what it returns, by lemmas of `Ascii`.
 use Rattle.std.proofs.Common.{sym, ◌∙◌}
 use Rattle.std.proofs.lemmas.Result.{IfOk-weaker}
 use Rattle.ldap_syntax.proofs.Ascii.{folded_ascii}

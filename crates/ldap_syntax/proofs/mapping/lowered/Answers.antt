@@ -1,3 +1,4 @@
+-- What search doesn't prove of `lowered`: what it returns, step by step.
 use Rattle.std.proofs.Common.{sym, ap, ◌∙◌, map, map-id}
 use Rattle.std.proofs.lemmas.Iterator.{YieldsList-from_chars}
 use Rattle.std.proofs.lemmas.Iterator.Consumers.{YieldsList-end}

@@ -1,3 +1,4 @@
+-- What search doesn't prove of `normal`: what it returns, by lemmas of `Ascii`.
 use Rattle.std.proofs.Common.{sym, ◌∙◌}
 use Rattle.ldap_syntax.proofs.Ascii.{normal_ascii}
 use Rattle.ldap_syntax.proofs.mapping.normal.Goals as goal

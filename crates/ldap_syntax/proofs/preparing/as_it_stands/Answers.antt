@@ -1,3 +1,4 @@
+-- What search doesn't prove of `as_it_stands`: what it returns, step by step.
 use Rattle.std.proofs.Common.{sym, ◌∙◌}
 use Rattle.std.proofs.lemmas.Result.{IfOk-weaker}
 use Rattle.std.proofs.lemmas.Str.{encodes-chars}

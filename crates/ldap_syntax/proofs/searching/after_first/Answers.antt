@@ -1,3 +1,4 @@
+-- What search doesn't prove of `after_first`: what it returns, by lemmas of `Search`.
 use Rattle.ldap_syntax.proofs.Search.{nowhere, found_rest}
 use Rattle.ldap_syntax.proofs.searching.after_first.Goals as goal
 

@@ -1,3 +1,4 @@
+-- What search doesn't prove of `before`: what it returns, by lemmas of `Search`.
 use Rattle.std.proofs.Common.{List, ℕ, ◌++◌, ap, sym, ◌∙◌}
 use Rattle.ldap_syntax.proofs.Search.{match_weaker, back_is, back_is_not}
 use Rattle.ldap_syntax.proofs.searching.before.Goals as goal

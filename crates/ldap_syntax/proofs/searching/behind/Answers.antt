@@ -1,3 +1,4 @@
+-- What search doesn't prove of `behind`: what it returns, by lemmas of `Search`.
 use Rattle.std.proofs.Common.{List, ℕ, ◌++◌, ap, sym, ◌∙◌}
 use Rattle.ldap_syntax.proofs.Search.{match_weaker, front_is, front_is_not}
 use Rattle.ldap_syntax.proofs.searching.behind.Goals as goal

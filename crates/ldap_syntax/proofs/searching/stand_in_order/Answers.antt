@@ -1,3 +1,5 @@
+-- What search doesn't prove of `stand_in_order`: `loop-part-init`, what it returns and `loop-part-preserved`, by lemmas
+-- of `Search`.
 use Rattle.ldap_syntax.proofs.Search.{begins, goes_on_at, fails_at, ends_at}
 use Rattle.ldap_syntax.proofs.searching.stand_in_order.Goals as goal
 

@@ -1,3 +1,4 @@
+-- What search doesn't prove of `ends_with_space`: what it returns, by lemmas of `Spaces`.
 use Rattle.std.proofs.Common.{refl, ap, ◌∙◌, nat_eq}
 use Rattle.ldap_syntax.proofs.Spaces.{last_space}
 use Rattle.ldap_syntax.proofs.spacing.ends_with_space.Goals as goal

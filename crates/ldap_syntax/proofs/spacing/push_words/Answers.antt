@@ -1,3 +1,4 @@
+-- What search doesn't prove of `push_words`: `loop-c-init`, by lemmas of `Words`.
 use Rattle.std.proofs.Common.{ℕ, List, ◌++◌, ap, string_bytes, encode_utf8_all, false}
 use Rattle.ldap_syntax.proofs.Words.{writes}
 use Rattle.ldap_syntax.proofs.spacing.push_words.Goals as goal

@@ -1,3 +1,4 @@
+-- What search doesn't prove of `spaced`: what it returns, by lemmas of `Spaces`.
 use Rattle.std.proofs.Common.{List, ℕ, ◌++◌, encode_utf8_all, ap, sym, ◌∙◌}
 use Rattle.std.proofs.lemmas.Result.{IfOk-weaker}
 use Rattle.ldap_syntax.specs.Text.{space_if}

@@ -1,3 +1,4 @@
+-- What search doesn't prove of `text_of`: what it returns, by lemmas of `Told`.
 use Rattle.std.proofs.Common.{ap, ◌∙◌, Err}
 use Rattle.ldap_syntax.proofs.Told.{no_key}
 use Rattle.ldap_syntax.proofs.texts.text_of.Goals as goal

@@ -1,3 +1,4 @@
+-- What search doesn't prove of `compare_folded`: what it returns, by lemmas of `OctetOrder`.
 use Rattle.std.proofs.Common.{◌∙◌}
 use Rattle.std.specs.Char.{to_ascii_lowercase}
 use Rattle.ldap_words.proofs.OctetOrder.{longer}

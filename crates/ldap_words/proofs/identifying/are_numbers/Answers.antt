@@ -1,3 +1,4 @@
+-- What search doesn't prove of `are_numbers`: what it returns, step by step.
 use Rattle.std.proofs.Common.{rules, tests, nat_eq}
 use Rattle.std.proofs.lemmas.Iterator.Search.{all_from_yields_List}
 use Rattle.std.proofs.lemmas.Iterator.Splits.{YieldsList-from_slice_split}

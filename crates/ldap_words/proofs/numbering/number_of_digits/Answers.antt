@@ -1,3 +1,4 @@
+-- What search doesn't prove of `number_of_digits`: what it returns, by lemmas of `Numbers`.
 use Rattle.ldap_words.proofs.Numbers.{digit_none}
 use Rattle.ldap_words.proofs.numbering.number_of_digits.Goals as goal
 

@@ -1,3 +1,4 @@
+-- What search doesn't prove of `syntax_of`: what it returns, by lemmas of `Tables`.
 use Rattle.ldap_words.proofs.Tables.{first, later}
 use Rattle.ldap_words.proofs.rules_by_name.syntax_of.Goals as goal
 

@@ -1,3 +1,4 @@
+-- What search doesn't prove of `index_of`: what it returns, by lemmas of `NumbersKept` (`ldap_words`).
 use Rattle.std.proofs.Common.{◌∙◌}
 use Rattle.ldap_words.proofs.NumbersKept.{number_lookup}
 use Rattle.ldif.proofs.adding.index_of.Goals as goal

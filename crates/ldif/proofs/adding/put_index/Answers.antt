@@ -1,3 +1,4 @@
+-- What search doesn't prove of `put_index`: what it returns, by lemmas of `NumbersKept` (`ldap_words`).
 use Rattle.std.proofs.Common.{ℕ, List, Vec, Global, ap, ◌∙◌}
 use Rattle.ldif.specs.private.Adding.{number_at}
 use Rattle.ldap_words.proofs.NumbersKept.{number_put}

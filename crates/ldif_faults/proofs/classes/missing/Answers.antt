@@ -1,3 +1,4 @@
+-- What search doesn't prove of `missing`: what it returns, by lemmas of `Written` (`text_faults`).
 use Rattle.std.proofs.Common.{codes, string_bytes}
 use Rattle.text_faults.proofs.Written.{two_words}
 use Rattle.ldif_faults.proofs.classes.missing.Goals as goal

@@ -1,3 +1,4 @@
+-- What search doesn't prove of `misplaced`: what it returns, by lemmas of `Written` (`text_faults`).
 use Rattle.std.proofs.Common.{◌≡◌, ℕ, List, ◌++◌, codes, decimal, append_assoc, ap, ◌∙◌, string_bytes}
 use Rattle.ldif_faults.specs.HexLines.{bad_octet}
 use Rattle.text_faults.proofs.Written.{written_as}

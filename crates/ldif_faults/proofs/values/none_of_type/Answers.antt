@@ -1,3 +1,4 @@
+-- What search doesn't prove of `none_of_type`: what it returns, by lemmas of `Written` (`text_faults`).
 use Rattle.std.proofs.Common.{◌++◌, ap, codes, cond, string_bytes, ◌∙◌}
 use Rattle.std.specs.Str.{is_utf8}
 use Rattle.std.proofs.lemmas.Result.{IfOk-weaker}

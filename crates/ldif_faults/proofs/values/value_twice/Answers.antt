@@ -1,3 +1,4 @@
+-- What search doesn't prove of `value_twice`: what it returns, by lemmas of `Written` (`text_faults`).
 use Rattle.std.proofs.Common.{ap, codes, string_bytes, ◌∙◌}
 use Rattle.text_faults.proofs.Written.{two_words}
 use Rattle.text_faults.specs.Words.{word_shown}

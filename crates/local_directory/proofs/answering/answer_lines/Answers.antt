@@ -1,3 +1,5 @@
+-- What search doesn't prove of `answer_lines`: `loop-number-init`, the clause `err`, the clause `ok` and
+-- `loop-number-preserved`, by lemmas of `Reading`.
 use Rattle.std.proofs.Common.{refl}
 use Rattle.std.proofs.lemmas.Result.{err_from_is_err_and}
 use Rattle.ldap_session.specs.session_handler.View.{config_view}

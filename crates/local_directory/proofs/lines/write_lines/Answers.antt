@@ -1,3 +1,5 @@
+-- What search doesn't prove of `write_lines`: what `split_at` requires, the clause `err` and `loop-length-preserved`,
+-- by lemmas of `Growing`.
 use Rattle.std.proofs.Common.{refl, ◌∙◌}
 use Rattle.local_directory.proofs.Growing.{next_row, line_done, line_cut}
 use Rattle.local_directory.proofs.lines.write_lines.Goals as goal

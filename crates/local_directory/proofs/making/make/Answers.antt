@@ -1,3 +1,5 @@
+-- What search doesn't prove of `make`: what `make_with_room` requires, what `put_back` requires, the clause `kept` and
+-- the clause `err_clients`, by lemmas of `Tables`.
 use Rattle.std.proofs.Common.{Some, is_some, ap, ◌∙◌}
 use Rattle.std.specs.Option.{option_map}
 use Rattle.std.specs.FinMap as map

@@ -1,3 +1,4 @@
+-- What search doesn't prove of `count_alike`: `loop-at-preserved`, step by step.
 use Rattle.std.proofs.Common.{◌≡◌, get_or, sym, ap, ◌∙◌, arith, rules}
 use Rattle.std.proofs.lemmas.List.{take_more_same}
 use Rattle.ldap_op.specs.Values.{OpValue}

@@ -1,3 +1,4 @@
+-- What search doesn't prove of `join_frames`: the clause `framed` and the clause `ok`, by lemmas of `Batching`.
 use Rattle.std.proofs.Common.{◌≡◌, ◌<◌, ◌^◌, ℕ, List, ◌++◌, length, ap, arith, length-append, rules}
 use Rattle.log_journal.proofs.Batching.{read_both, framed_both}
 use Rattle.log_journal.proofs.batch.join_frames.Goals as goal

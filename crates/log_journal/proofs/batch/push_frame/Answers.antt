@@ -1,3 +1,5 @@
+-- What search doesn't prove of `push_frame`: the clause `framed`, the clause `ok`, the clause `full` and the clause
+-- `too_long`, by lemmas of `Batching`.
 use Rattle.std.proofs.Common.{◌<◌, ◌^◌, ℕ, List, length, refl, ap, arith, length-append}
 use Rattle.journal.specs.Frames.{frame, recorded}
 use Rattle.log_journal.proofs.Batching.{frame_length, frames_longer, read_more, framed_more}

@@ -1,3 +1,4 @@
+-- What search doesn't prove of `fields_of`: what it returns, step by step.
 use Rattle.std.proofs.Common.{slice_index}
 use Rattle.log_journal.proofs.fields.fields_of.Goals as goal
 

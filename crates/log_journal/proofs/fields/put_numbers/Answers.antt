@@ -1,3 +1,4 @@
+-- What search doesn't prove of `put_numbers`: the clause `ok`, by lemmas of `Joining`.
 use Rattle.log_journal.proofs.Joining.{five}
 use Rattle.log_journal.proofs.fields.put_numbers.Goals as goal
 

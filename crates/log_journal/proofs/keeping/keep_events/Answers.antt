@@ -1,3 +1,5 @@
+-- What search doesn't prove of `keep_events`: the clause `any_moment`, the clause `memory`, the clause `taken` and the
+-- clause `late`, by lemmas of `Along` and `SomeSteps`.
 use Rattle.std.proofs.Common.{ℕ, List, subst}
 use Rattle.log_journal.specs.Taken.{TakesAll}
 use Rattle.vr_state.specs.Views.{state}

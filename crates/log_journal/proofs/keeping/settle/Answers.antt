@@ -1,3 +1,5 @@
+-- What search doesn't prove of `settle`: what `append` requires, the clause `any_moment`, the clause `strings` and the
+-- clause `held`, by lemmas of `Along`.
 use Rattle.std.proofs.Common.{◌≡◌, ℕ, List, ◌++◌, sym, ap, ◌∙◌, subst}
 use Rattle.journal.specs.Device.{LeavesOnly}
 use Rattle.journal.specs.Frames.{recorded, frames}

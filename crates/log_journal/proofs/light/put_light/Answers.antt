@@ -1,3 +1,4 @@
+-- What search doesn't prove of `put_light`: what `put_reserved` requires, by lemmas of `Lightly`.
 use Rattle.std.proofs.Common.{◌≡◌, ◌≤◌, ℕ, List, true, min, length, drop, ap, ap₂, ◌∙◌, arith, rules}
 use Rattle.std.proofs.lemmas.List.{drop_min}
 use Rattle.ldap_op.specs.Values.{OpValue}

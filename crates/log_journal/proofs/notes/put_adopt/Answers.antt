@@ -1,3 +1,4 @@
+-- What search doesn't prove of `put_adopt`: the clause `ok`, by lemmas of `Putting`.
 use Rattle.log_journal.specs.Notes.{Step}
 use Rattle.vr_state.specs.Journaled.{Adopt}
 use Rattle.log_journal.proofs.Putting.{one_put}

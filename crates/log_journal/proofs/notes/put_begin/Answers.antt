@@ -1,3 +1,4 @@
+-- What search doesn't prove of `put_begin`: the clause `ok` and the clause `full`, by lemmas of `Putting`.
 use Rattle.std.proofs.Common.{rules}
 use Rattle.log_journal.specs.Notes.{Begin}
 use Rattle.log_journal.proofs.Putting.{one_full, one_put}

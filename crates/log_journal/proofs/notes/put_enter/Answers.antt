@@ -1,3 +1,4 @@
+-- What search doesn't prove of `put_enter`: the clause `ok`, by lemmas of `Putting`.
 use Rattle.log_journal.specs.Notes.{Step}
 use Rattle.vr_state.specs.Journaled.{Enter}
 use Rattle.log_journal.proofs.Putting.{one_put}

@@ -1,3 +1,4 @@
+-- What search doesn't prove of `put_fields`: the clause `ok` and the clause `full`, step by step.
 use Rattle.std.proofs.Common.{ap, ◌∙◌, rules}
 use Rattle.log_journal.specs.Fields.{fields_at}
 use Rattle.log_journal.specs.Views.{fields_view}

@@ -1,3 +1,5 @@
+-- What search doesn't prove of `clear`: the clause `held` and the clause `strings`, by lemmas of `Along` and `Crash`
+-- (`journal`).
 use Rattle.std.proofs.Common.{◌≡◌}
 use Rattle.log_journal.specs.journal.Frames.{recorded}
 use Rattle.journal.proofs.Crash.{recorded_now}

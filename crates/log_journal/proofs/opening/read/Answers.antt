@@ -1,3 +1,4 @@
+-- What search doesn't prove of `read`: the clause `any_moment`, by lemmas of `Along`.
 use Rattle.std.proofs.Common.{◌≡◌, List, ℕ, ap, subst}
 use Rattle.journal.specs.Device.{LeavesOnly}
 use Rattle.journal.specs.Frames.{recorded}

@@ -1,3 +1,5 @@
+-- What search doesn't prove of `tell_all`: `strings-init`, `strings-preserved`, `strings-smaller`, the clause
+-- `any_moment` and others, by lemmas of `Along` and `Finding`.
 use Rattle.std.proofs.Common.{◌≡◌, List, ℕ, true, false, Err, length, drop, refl, sym, ap, ap₂, ◌∙◌, subst, arith}
 use Rattle.journal.specs.Device.{LeavesOnly}
 use Rattle.journal.specs.Frames.{is_whole, recorded}

@@ -1,3 +1,5 @@
+-- What search doesn't prove of `tell_next`: the clause `told`, the clause `version` and the clause `damaged`, by lemmas
+-- of `Finding`.
 use Rattle.std.proofs.Common.{◌≡◌, List, ℕ, Err, refl, ap, subst}
 use Rattle.journal.specs.Reading.{Advances}
 use Rattle.log_journal.specs.private.Told.{TakesString}

@@ -1,3 +1,4 @@
+-- What search doesn't prove of `is_same`: the clause `apart`, by lemmas of `Parting`.
 use Rattle.log_journal.proofs.Parting.{octets_differ}
 use Rattle.log_journal.proofs.spelling.is_same.Goals as goal
 

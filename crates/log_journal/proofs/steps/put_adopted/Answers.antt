@@ -1,3 +1,4 @@
+-- What search doesn't prove of `put_adopted`: the clause `ok`, by lemmas of `Putting`.
 use Rattle.std.proofs.Common.{List, ap, ◌∙◌, subst, drop, map}
 use Rattle.ldap_op.specs.Values.{OpValue}
 use Rattle.vr_state.specs.Words.{LogEntry}

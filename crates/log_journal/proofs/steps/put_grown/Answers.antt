@@ -1,3 +1,4 @@
+-- What search doesn't prove of `put_grown`: the clause `ok`, by lemmas of `Putting`.
 use Rattle.std.proofs.Common.{◌≡◌, ℕ, List, min, length, ap₂, ◌∙◌, subst, drop, map, arith}
 use Rattle.std.proofs.lemmas.List.{drop_min}
 use Rattle.ldap_op.specs.Values.{OpValue}

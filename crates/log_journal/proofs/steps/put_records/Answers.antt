@@ -1,3 +1,5 @@
+-- What search doesn't prove of `put_records`: `loop-entry-init`, `loop-entry-preserved` and the clause `ok`, by lemmas
+-- of `Putting`.
 use Rattle.std.proofs.Common.{◌∷◌, [], subst, arith}
 use Rattle.ldap_op.specs.Values.{OpValue}
 use Rattle.vr_state.specs.Words.{LogEntry}

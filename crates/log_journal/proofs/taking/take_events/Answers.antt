@@ -1,3 +1,5 @@
+-- What search doesn't prove of `take_events`: `loop-event-init`, `loop-event-preserved`, the clause `taken` and the
+-- clause `stepped`, by lemmas of `SomeSteps`.
 use Rattle.std.proofs.Common.{◌≡◌, ℕ, List, [], ◌∷◌, ◌++◌, Result, inr, refl, sym, ap, ◌∙◌, subst, append_assoc, arith, rules}
 use Rattle.std.proofs.lemmas.List.{nil_from_length, append-nil}
 use Rattle.std.specs.declared.alloc.AllocError.{AllocError}

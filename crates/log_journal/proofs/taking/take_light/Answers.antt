@@ -1,3 +1,4 @@
+-- What search doesn't prove of `take_light`: what `put_light` requires and the clause `taken`, by lemmas of `Lightly`.
 use Rattle.std.proofs.Common.{◌≡◌, ℕ, List, map, refl, sym, ap, ◌∙◌, subst}
 use Rattle.journal.specs.Frames.{recorded}
 use Rattle.ldap_op.specs.Values.{OpValue}

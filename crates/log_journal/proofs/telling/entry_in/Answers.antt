@@ -1,3 +1,4 @@
+-- What search doesn't prove of `entry_in`: the clause `damaged`, step by step.
 use Rattle.std.proofs.Common.{rules}
 use Rattle.log_journal.proofs.telling.entry_in.Goals as goal
 

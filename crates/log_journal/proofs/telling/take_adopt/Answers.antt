@@ -1,3 +1,4 @@
+-- What search doesn't prove of `take_adopt`: the clause `taken`, by lemmas of `Plain`.
 use Rattle.ldap_op.specs.Values.{OpValue}
 use Rattle.vr_state.specs.Words.{LogEntry}
 use Rattle.std.proofs.Common.{List, take, ◌++◌, refl, sym, ap, ◌∙◌, rules}

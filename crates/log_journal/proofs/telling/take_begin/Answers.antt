@@ -1,3 +1,4 @@
+-- What search doesn't prove of `take_begin`: the clause `taken`, by lemmas of `Plain`.
 use Rattle.std.proofs.Common.{refl, arith, rules}
 use Rattle.log_journal.specs.Notes.{Begin}
 use Rattle.log_journal.specs.Views.{fields_view}

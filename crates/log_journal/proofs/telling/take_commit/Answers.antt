@@ -1,3 +1,4 @@
+-- What search doesn't prove of `take_commit`: the clause `taken`, by lemmas of `Plain`.
 use Rattle.std.proofs.Common.{ℕ, refl, sym, ap, ◌∙◌, rules}
 use Rattle.log_journal.specs.Notes.{Commit, plain}
 use Rattle.log_journal.proofs.Plain.{told_is}

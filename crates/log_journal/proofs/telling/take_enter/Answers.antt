@@ -1,3 +1,4 @@
+-- What search doesn't prove of `take_enter`: the clause `taken`, by lemmas of `Plain`.
 use Rattle.std.proofs.Common.{ℕ, refl, sym, ap, ◌∙◌, rules}
 use Rattle.log_journal.specs.Notes.{Step, plain}
 use Rattle.vr_state.specs.Journaled.{Enter}

@@ -1,3 +1,5 @@
+-- What search doesn't prove of `take_record`: the clause `taken` and the clause `damaged`, by lemmas of `NoNote` and
+-- `Plain`.
 use Rattle.std.proofs.Common.{ℕ, refl, sym, subst, rules}
 use Rattle.log_journal.specs.Notes.{Step, IsEntryIn}
 use Rattle.log_journal.specs.Views.{fields_view}

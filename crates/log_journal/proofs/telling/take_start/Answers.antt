@@ -1,3 +1,4 @@
+-- What search doesn't prove of `take_start`: the clause `taken`, by lemmas of `Plain`.
 use Rattle.std.proofs.Common.{true, false, refl, sym, arith, rules}
 use Rattle.log_journal.specs.Notes.{Start}
 use Rattle.log_journal.specs.Views.{fields_view}

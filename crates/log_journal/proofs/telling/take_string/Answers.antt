@@ -1,3 +1,4 @@
+-- What search doesn't prove of `take_string`: the clause `version`, step by step.
 use Rattle.log_journal.specs.Views.{fields_view}
 use Rattle.log_journal.proofs.telling.take_string.Goals as goal
 

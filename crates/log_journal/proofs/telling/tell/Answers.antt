@@ -1,3 +1,5 @@
+-- What search doesn't prove of `tell`: `loop-string-preserved`, the clause `version` and the clause `damaged`, by
+-- lemmas of `Finding` and `ToldOn`.
 use Rattle.std.proofs.Common.{ap, ◌∙◌, arith, rules}
 use Rattle.log_journal.specs.Told.{nothing_told}
 use Rattle.log_journal.proofs.Finding.{damage_at, version_at}

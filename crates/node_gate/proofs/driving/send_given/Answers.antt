@@ -1,3 +1,4 @@
+-- What search doesn't prove of `send_given`: the clause `taken`, step by step.
 use Rattle.std.proofs.Common.{Result, subst, sym}
 use Rattle.std.specs.declared.alloc.AllocError.{AllocError}
 use Rattle.dir_node.specs.dir_store.ldap_op.Values.{OpValue}

@@ -1,3 +1,5 @@
+-- What search doesn't prove of `take_all`: the clause `stepped`, the clause `left_out` and what `new` requires, by
+-- lemmas of `BeatSent` and `Sent`.
 use Rattle.std.proofs.Common.{ap, sym, subst, ◌∙◌}
 use Rattle.node_gate.specs.Batches.{left_out, sends_at}
 use Rattle.node_gate.specs.private.Batches.{IsBeatAt}

@@ -1,3 +1,5 @@
+-- What search doesn't prove of `open`: the clause `made`, the clause `restarted` and the clause `executed`, by lemmas
+-- of `Starts`.
 use Rattle.node_gate.proofs.Starts.{executed_due, made_as, restarted_as}
 use Rattle.node_gate.proofs.opening.open.Goals as goal
 

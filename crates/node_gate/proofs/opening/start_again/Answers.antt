@@ -1,3 +1,4 @@
+-- What search doesn't prove of `start_again`: the clause `nothing` and the clause `replica`, step by step.
 use Rattle.std.proofs.Common.{◌≡◌, Option, Some, None, refl}
 use Rattle.dir_node.specs.NodeState.{nothing_executed}
 use Rattle.node_gate.specs.private.Identities.{IsReplicaOf}

@@ -1,3 +1,4 @@
+-- What search doesn't prove of `send_all`: `loop-send-preserved` and what it returns, step by step.
 use Rattle.std.proofs.Common.{◌≡◌, arith, subst, sym, List, []}
 use Rattle.std.proofs.lemmas.List.{nil_from_length}
 use Rattle.dir_node.specs.dir_store.ldap_op.Values.{OpValue}

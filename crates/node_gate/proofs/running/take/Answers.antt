@@ -1,3 +1,4 @@
+-- What search doesn't prove of `take`: the clause `stepped`, by lemmas of `Sent`.
 use Rattle.node_gate.proofs.Sent.{stepped}
 use Rattle.node_gate.proofs.running.take.Goals as goal
 

@@ -1,3 +1,4 @@
+-- What search doesn't prove of `take_message`: the clause `stepped`, by lemmas of `Sent`.
 use Rattle.node_gate.proofs.Sent.{stepped}
 use Rattle.node_gate.proofs.running.take_message.Goals as goal
 

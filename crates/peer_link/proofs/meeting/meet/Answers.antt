@@ -1,3 +1,4 @@
+-- What search doesn't prove of `meet`: what it returns, by lemmas of `Passing`.
 use Rattle.std.proofs.Common.{rules, ◌≡◌, take, drop}
 use Rattle.peer_link.proofs.Passing.{meets, passes_on}
 use Rattle.peer_link.proofs.meeting.meet.Goals as goal

@@ -1,3 +1,5 @@
+-- What search doesn't prove of `long_messages_are_awaited`: the clause `comes`, the clause `taken` and the clause
+-- `longer`, by lemmas of `LongMessages`.
 use Rattle.replica_clock.proofs.LongMessages.{comes, taken, longer}
 use Rattle.replica_clock.proofs.laws.long_messages_are_awaited.Goals as goal
 

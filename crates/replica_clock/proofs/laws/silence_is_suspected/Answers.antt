@@ -1,3 +1,5 @@
+-- What search doesn't prove of `silence_is_suspected`: the clause `silent` and the clause `heard`, by lemmas of
+-- `Trust`.
 use Rattle.replica_clock.proofs.Trust.{suspected, trusted}
 use Rattle.replica_clock.proofs.laws.silence_is_suspected.Goals as goal
 

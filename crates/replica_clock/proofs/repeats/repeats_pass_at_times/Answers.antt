@@ -1,3 +1,5 @@
+-- What search doesn't prove of `repeats_pass_at_times`: the clause `passes`, the clause `first` and the clause
+-- `held_back`, by lemmas of `RepeatedMessages`.
 use Rattle.replica_clock.proofs.RepeatedMessages.{passes_at_times, first_passes, are_held_back}
 use Rattle.replica_clock.proofs.repeats.repeats_pass_at_times.Goals as goal
 

@@ -1,3 +1,5 @@
+-- What search doesn't prove of `long_steps_are_told`: the clause `hung`, the clause `well`, the clause `silent` and the
+-- clause `heard`, by lemmas of `LongSteps`.
 use Rattle.replica_clock.proofs.LongSteps.{heard, hung, silent, well}
 use Rattle.replica_clock.proofs.steps.long_steps_are_told.Goals as goal
 

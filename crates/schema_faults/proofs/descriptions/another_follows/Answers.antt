@@ -1,3 +1,4 @@
+-- What search doesn't prove of `another_follows`: what it returns, by lemmas of `Written` (`text_faults`).
 use Rattle.std.proofs.Common.{codes, string_bytes}
 use Rattle.text_faults.proofs.Written.{between_words}
 use Rattle.schema_faults.proofs.descriptions.another_follows.Goals as goal

@@ -1,3 +1,4 @@
+-- What search doesn't prove of `order_fault`: `loop-piece-preserved-then-is_argument`, by lemmas of `Ordering`.
 use Rattle.schema_faults.proofs.Ordering.{argument_skipped}
 use Rattle.schema_faults.proofs.descriptions.order_fault.Goals as goal
 

@@ -1,3 +1,4 @@
+-- What search doesn't prove of `too_late`: what it returns, by lemmas of `Written` (`text_faults`).
 use Rattle.std.proofs.Common.{codes, string_bytes}
 use Rattle.text_faults.proofs.Written.{begun_with}
 use Rattle.schema_faults.proofs.descriptions.too_late.Goals as goal

@@ -1,3 +1,5 @@
+-- What search doesn't prove of `way_back`: `loop-place-init`, `loop-place-preserved` and what it returns, by lemmas of
+-- `Reaching`.
 use Rattle.std.proofs.Common.{◌≡◌, ◌++◌, ◌∷◌, [], ℕ, List, ap, ◌∙◌, refl, reverse, get_or, string_bytes, arith}
 use Rattle.std.proofs.lemmas.Result.{IfOk-weaker}
 use Rattle.schema_faults.specs.Loops.{way_sentence, IsWayOf}

@@ -1,3 +1,5 @@
+-- What search doesn't prove of `pieces_of`: `loop-index-preserved`, by lemmas of `CutPieces` and `Cutting`
+-- (`text_faults`).
 use Rattle.std.proofs.Common.{◌+◌, ◌∙◌, ap, arith, map}
 use Rattle.std.specs.List.{slice_range}
 use Rattle.text_faults.proofs.Cutting.{longer_range, empty_range}

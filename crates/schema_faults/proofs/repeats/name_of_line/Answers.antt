@@ -1,3 +1,4 @@
+-- What search doesn't prove of `name_of_line`: what it returns, by lemmas of `Written` (`text_faults`).
 use Rattle.std.proofs.Common.{codes, decimal, refl, string_bytes}
 use Rattle.text_faults.proofs.Written.{two_words}
 use Rattle.schema_faults.proofs.repeats.name_of_line.Goals as goal

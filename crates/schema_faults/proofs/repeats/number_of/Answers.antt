@@ -1,3 +1,4 @@
+-- What search doesn't prove of `number_of`: what it returns, by lemmas of `Again`.
 use Rattle.std.proofs.Common.{◌∙◌}
 use Rattle.schema_faults.proofs.Again.{line_lookup}
 use Rattle.schema_faults.proofs.repeats.number_of.Goals as goal

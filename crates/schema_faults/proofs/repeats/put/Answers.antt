@@ -1,3 +1,4 @@
+-- What search doesn't prove of `put`: what it returns, by lemmas of `Again`.
 use Rattle.std.proofs.Common.{ℕ, List, Vec, Global, ap, ◌∙◌}
 use Rattle.schema_meaning.specs.private.Octets.{number_at}
 use Rattle.schema_faults.proofs.Again.{line_put}

@@ -1,3 +1,4 @@
+-- What search doesn't prove of `none_inherited`: what it returns, by lemmas of `Written` (`text_faults`).
 use Rattle.std.proofs.Common.{codes, refl, string_bytes}
 use Rattle.text_faults.proofs.Written.{two_words}
 use Rattle.schema_faults.proofs.schemas.none_inherited.Goals as goal

@@ -1,3 +1,5 @@
+-- What search doesn't prove of `loops_lead_back`: the clause `types`, the clause `classes`, the clause `refused` and
+-- the clause `read`, by lemmas of `Looped`, `Lineages` and `FirstLoops`.
 use Rattle.schema_laws.proofs.Looped.{loops_of_types}
 use Rattle.schema_laws.proofs.Lineages.{loops_of_classes}
 use Rattle.schema_laws.proofs.FirstLoops.{refused_at_first_loop, read_texts_have_no_loop}

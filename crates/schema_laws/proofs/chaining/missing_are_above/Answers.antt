@@ -1,3 +1,5 @@
+-- What search doesn't prove of `missing_are_above`: the clause `above`, the clause `once` and the clause `in_turn`, by
+-- lemmas of `Lineages`.
 use Rattle.schema_laws.proofs.Lineages.{missing_are_above, missing_stand_once, missing_come_in_turn}
 use Rattle.schema_laws.proofs.chaining.missing_are_above.Goals as goal
 

@@ -1,3 +1,5 @@
+-- What search doesn't prove of `refused_at_first_faults`: the clause `bad`, the clause `unknown` and the clause
+-- `lacking`, by lemmas of `FirstFaults`.
 use Rattle.schema_laws.proofs.FirstFaults.{refused_at_first_bad_line, refused_at_first_unknown, refused_at_first_lack}
 use Rattle.schema_laws.proofs.faulting.refused_at_first_faults.Goals as goal
 

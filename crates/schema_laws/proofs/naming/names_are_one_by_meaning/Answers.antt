@@ -1,3 +1,5 @@
+-- What search doesn't prove of `names_are_one_by_meaning`: what it returns, by lemmas of `MeantNames` and `Items`
+-- (`ldap_match`).
 use Rattle.ldap_match.proofs.Items.{KeyLaws}
 use Rattle.schema_laws.proofs.MeantNames.{names_are_one_by_meaning}
 use Rattle.schema_laws.proofs.naming.names_are_one_by_meaning.Goals as goal

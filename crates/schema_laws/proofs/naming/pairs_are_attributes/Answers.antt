@@ -1,3 +1,5 @@
+-- What search doesn't prove of `pairs_are_attributes`: the clause `pairs` and the clause `names`, by lemmas of
+-- `PairValues` and `Items` (`ldap_match`).
 use Rattle.ldap_match.proofs.Items.{KeyLaws, keys_mean}
 use Rattle.schema_laws.proofs.PairValues.{pairs_are_attributes, names_are_attributes}
 use Rattle.schema_laws.proofs.naming.pairs_are_attributes.Goals as goal

@@ -1,3 +1,4 @@
+-- What search doesn't prove of `numbers_of`: what it returns, by lemmas of `Kept`.
 use Rattle.std.proofs.Math.ListN.{drop_of_length-le}
 use Rattle.std.specs.Str.{bytes_eq}
 use Rattle.schema_text.specs.Descriptions.{DescriptionModel}

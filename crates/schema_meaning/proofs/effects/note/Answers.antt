@@ -1,3 +1,4 @@
+-- What search doesn't prove of `note`: what it returns, by lemmas of `Reaching`.
 use Rattle.std.proofs.Common.{List, Option, ap, ◌∙◌}
 use Rattle.schema_meaning.specs.declared.inheriting.Effect.{Effect}
 use Rattle.schema_meaning.specs.private.Settling.{effect_by}

@@ -1,3 +1,5 @@
+-- What search doesn't prove of `note_news`: `loop-number-smaller`, `loop-number-preserved` and what it returns, by
+-- lemmas of `Reaching`.
 use Rattle.std.proofs.Common.{◌≡◌, ◌<◌, ℕ, List, Option, None, length, ap, sym, subst, ◌∙◌}
 use Rattle.schema_meaning.specs.declared.inheriting.Effect.{Effect}
 use Rattle.schema_meaning.specs.private.Settling.{new_effect}

@@ -1,3 +1,4 @@
+-- What search doesn't prove of `has_twice`: `loop-name-init` and `loop-name-preserved`, by lemmas of `Before`.
 use Rattle.std.proofs.Common.{◌||◌, ◌+◌, ℕ, Bool, List, ◌∷◌, Vec, Global, ap, sym, ◌∙◌, map, drop}
 use Rattle.schema_meaning.specs.Naming.{has_twice}
 use Rattle.schema_meaning.specs.private.Octets.{number_at}

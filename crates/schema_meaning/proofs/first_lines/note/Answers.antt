@@ -1,3 +1,4 @@
+-- What search doesn't prove of `note`: what it returns, by lemmas of `Before`.
 use Rattle.std.proofs.Common.{ℕ, Option, ap, ◌∙◌}
 use Rattle.schema_meaning.specs.Faults.{earlier_of}
 use Rattle.schema_meaning.specs.private.Octets.{number_at}

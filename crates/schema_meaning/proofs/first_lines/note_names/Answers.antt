@@ -1,3 +1,4 @@
+-- What search doesn't prove of `note_names`: what it returns, by lemmas of `Before`.
 use Rattle.std.proofs.Common.{ap, sym, ◌∙◌, map}
 use Rattle.std.proofs.Math.ListN.{drop_of_length-le}
 use Rattle.std.specs.Char.{to_ascii_lowercase}

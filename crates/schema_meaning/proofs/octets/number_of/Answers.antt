@@ -1,3 +1,4 @@
+-- What search doesn't prove of `number_of`: what it returns, by lemmas of `Before`.
 use Rattle.std.proofs.Common.{◌∙◌}
 use Rattle.schema_meaning.proofs.Before.{line_lookup}
 use Rattle.schema_meaning.proofs.octets.number_of.Goals as goal

@@ -1,3 +1,5 @@
+-- What search doesn't prove of `are_falling`: `loop-number-preserved` and what it returns, by lemmas of
+-- `FallingClasses`.
 use Rattle.std.proofs.Common.{sym, ◌∙◌}
 use Rattle.schema_reader.proofs.FallingClasses.{falling_more, falling_whole}
 use Rattle.schema_reader.proofs.class_loops.are_falling.Goals as goal

@@ -1,3 +1,4 @@
+-- What search doesn't prove of `falling_ranks`: what it returns, step by step.
 use Rattle.std.proofs.Common.{ℕ, List, subst}
 use Rattle.schema_reader.specs.private.Falling.{IsFalling}
 use Rattle.schema_reader.proofs.class_loops.falling_ranks.Goals as goal

@@ -1,3 +1,4 @@
+-- What search doesn't prove of `is_class_looping`: what it returns, by lemmas of `FallingClasses`.
 use Rattle.schema_reader.proofs.FallingClasses.{off_loop}
 use Rattle.schema_reader.proofs.class_loops.is_class_looping.Goals as goal
 

@@ -1,3 +1,4 @@
+-- What search doesn't prove of `text_of`: what it returns, by lemmas of `AsText`.
 use Rattle.std.proofs.Common.{ap, ◌∙◌}
 use Rattle.std.specs.String.{string_bytes}
 use Rattle.std.proofs.lemmas.Str.{IsUtf8-string_bytes}

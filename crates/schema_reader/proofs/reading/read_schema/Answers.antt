@@ -1,3 +1,4 @@
+-- What search doesn't prove of `read_schema`: the clause `refused` and the clause `found`, step by step.
 use Rattle.std.proofs.Common.{◌≡◌, Ok, IfOk, IfErr, ap, subst, ◌∙◌}
 use Rattle.schema_meaning.specs.schema_text.Texts.{SchemaTextModel, read_text}
 use Rattle.ldap_schema.specs.Schema.{SchemaModel}

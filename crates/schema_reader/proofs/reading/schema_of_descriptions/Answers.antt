@@ -1,3 +1,4 @@
+-- What search doesn't prove of `schema_of_descriptions`: the clause `found` and the clause `refused`, step by step.
 use Rattle.std.proofs.Common.{◌≡◌, Ok, IfOk, IfErr, subst}
 use Rattle.schema_meaning.specs.schema_text.Texts.{SchemaTextModel}
 use Rattle.ldap_schema.specs.Schema.{SchemaModel}

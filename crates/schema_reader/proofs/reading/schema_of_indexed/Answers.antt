@@ -1,3 +1,4 @@
+-- What search doesn't prove of `schema_of_indexed`: what `of_parts` requires, by lemmas of `Judged`.
 use Rattle.std.proofs.Common.{List, ap, sym, ◌∙◌}
 use Rattle.schema_meaning.specs.schema_text.Descriptions.{DescriptionModel}
 use Rattle.schema_reader.specs.Described.{types_from}

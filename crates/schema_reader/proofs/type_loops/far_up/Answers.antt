@@ -1,3 +1,4 @@
+-- What search doesn't prove of `far_up`: `loop-left-preserved`, by lemmas of `LoopingTypes`.
 use Rattle.std.proofs.Common.{ap, ◌∙◌}
 use Rattle.schema_reader.specs.private.Looping.{doubled}
 use Rattle.schema_reader.proofs.LoopingTypes.{twice_up}

@@ -1,3 +1,4 @@
+-- What search doesn't prove of `looping_types`: what it returns, by lemmas of `LoopingTypes`.
 use Rattle.std.proofs.Common.{ℕ, List, Option, length, replicate, false, ap, ◌∙◌}
 use Rattle.schema_reader.specs.private.Looping.{all_marked}
 use Rattle.schema_reader.proofs.LoopingTypes.{marks_are}

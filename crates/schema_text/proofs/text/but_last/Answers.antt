@@ -1,3 +1,4 @@
+-- What search doesn't prove of `but_last`: what it returns, step by step.
 use Rattle.std.proofs.Common.{ℕ, ◌-◌, List, length, map, take, ◌≡◌, sym, ap, ◌∙◌, arith}
 use Rattle.std.proofs.lemmas.List.{take-map, length-map}
 use Rattle.schema_text.proofs.text.but_last.Goals as goal

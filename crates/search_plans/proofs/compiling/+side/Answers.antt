@@ -1,3 +1,5 @@
+-- What search doesn't prove of `+side`: `side-returns-then-wanted`, `side-returns-else-wanted`,
+-- `side-returns-then-wanted-2`, `side-returns-else-wanted-2` and others, by lemmas of `Rows` and `Whole`.
 use Rattle.search_plans.specs.private.Sides.{none}
 use Rattle.search_plans.proofs.Rows.{if_ok_weaker, each_step}
 use Rattle.search_plans.proofs.Whole.{every_of, side_of_and_true, side_of_and_false, side_of_or_true, side_of_or_false, side_of_not}

@@ -1,3 +1,5 @@
+-- What search doesn't prove of `compile`: the clause `sets`, the clause `guides`, the clause `entries`, the clause
+-- `runs` and others, by lemmas of `Rows`, `Whole` and `Planned`.
 use Rattle.std.proofs.Common.{◌≡◌, Vec, Global, refl, sym, subst, ◌∙◌}
 use Rattle.ldap_eval.specs.ldap_match.declared.truth.Truth.TheVariants.{True}
 use Rattle.ldap_eval.specs.Bound.{bound_value}

@@ -1,3 +1,5 @@
+-- What search doesn't prove of `+contains`: `is_member-returns-in-Union` and `is_member-returns-in-Inter`, by lemmas of
+-- `Gathered` and `Equations`.
 use Rattle.std.proofs.Common.{◌∙◌, sym, ap}
 use Rattle.search_plans.specs.declared.plan.Plan.{Plan}
 use Rattle.std.proofs.lemmas.List.Folds.{list_all-map}

@@ -1,3 +1,5 @@
+-- What search doesn't prove of `+gather`: the clause `gathers` and the clause `rising`, by lemmas of `Equations` and
+-- `Gathered`.
 use Rattle.std.proofs.Common.{sym, ap, ◌∙◌}
 use Rattle.std.proofs.lemmas.List.Folds.{list_all-map}
 use Rattle.search_plans.specs.Sets.{is_in}

@@ -1,3 +1,4 @@
+-- What search doesn't prove of `candidates`: the clause `draws`, by lemmas of `Rising`.
 use Rattle.search_plans.proofs.Rising.{drawn}
 use Rattle.search_plans.proofs.gathering.candidates.Goals as goal
 

@@ -1,3 +1,5 @@
+-- What search doesn't prove of `draw_sided`: the clause `covers`, the clause `rising` and the clause `sure`, by lemmas
+-- of `Together`.
 use Rattle.std.proofs.Common.{sym, ap, subst, ◌∙◌}
 use Rattle.dir_index.specs.Postings.{has_number, IsRising}
 use Rattle.search_plans.proofs.Together.{has_together, together_rising}

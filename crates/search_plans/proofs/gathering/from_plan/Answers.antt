@@ -1,3 +1,4 @@
+-- What search doesn't prove of `from_plan`: the clause `covers` and the clause `rising`, by lemmas of `Together`.
 use Rattle.std.proofs.Common.{◌∙◌, ap, sym, subst}
 use Rattle.dir_index.specs.Postings.{has_number, IsRising}
 use Rattle.search_plans.proofs.Together.{has_together, together_rising}

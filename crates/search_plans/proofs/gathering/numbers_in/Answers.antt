@@ -1,3 +1,4 @@
+-- What search doesn't prove of `numbers_in`: the clause `same` and the clause `rising`, by lemmas of `Sorted`.
 use Rattle.std.proofs.Common.{◌∙◌, ◌||◌, List, ℕ, ap}
 use Rattle.dir_index.specs.Postings.{has_number}
 use Rattle.search_plans.proofs.Sorted.{sorted_has, sorted_rising}

@@ -1,3 +1,4 @@
+-- What search doesn't prove of `push_range`: the clause `gathers`, by lemmas of `Gathered`.
 use Rattle.std.proofs.Common.{◌∙◌, ap}
 use Rattle.dir_index.specs.Postings.{has_number}
 use Rattle.search_plans.proofs.Gathered.{on_ok_weaker, gathers_same}

@@ -1,3 +1,4 @@
+-- What search doesn't prove of `push_set`: the clause `gathers`, step by step.
 use Rattle.search_plans.proofs.gathering.push_set.Goals as goal
 
 pub returns-clause-gathers : goal.returns-clause-gathers

@@ -1,3 +1,4 @@
+-- What search doesn't prove of `scope_alone`: the clause `stream`, by lemmas of `Together`.
 use Rattle.std.proofs.Common.{◌≡◌, ◌∷◌, ◌++◌, [], ◌∙◌, ap, List, ℕ}
 use Rattle.search_plans.specs.Streams.{together}
 use Rattle.search_plans.proofs.Together.{together_one}

@@ -1,3 +1,4 @@
+-- What search doesn't prove of `has`: what it returns, by lemmas of `Searching`.
 use Rattle.std.proofs.Common.{ap, ◌∙◌, sym}
 use Rattle.search_plans.proofs.Searching.{search_tells, found_of}
 use Rattle.search_plans.proofs.having.has.Goals as goal

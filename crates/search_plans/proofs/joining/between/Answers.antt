@@ -1,3 +1,4 @@
+-- What search doesn't prove of `between`: what it returns, by lemmas of `Joined`.
 use Rattle.std.proofs.Common.{ap, ap₂, ◌∙◌, ◌++◌, ◌∷◌, [], List, Option, ℕ}
 use Rattle.dir_index.specs.declared.posting.Posting.TheVariants as posting
 use Rattle.search_plans.specs.declared.plan.Plan.{Plan}

@@ -1,3 +1,4 @@
+-- What search doesn't prove of `join_bounds`: `loop-i-preserved`, step by step.
 use Rattle.std.proofs.Common.{◌∙◌, arith}
 use Rattle.search_plans.proofs.joining.join_bounds.Goals as goal
 

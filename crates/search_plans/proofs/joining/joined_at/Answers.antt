@@ -1,3 +1,4 @@
+-- What search doesn't prove of `joined_at`: what it returns, by lemmas of `Joined`.
 use Rattle.std.proofs.Common.{◌∙◌}
 use Rattle.search_plans.proofs.Joined.{between_holds, implied_by_one}
 use Rattle.search_plans.proofs.joining.joined_at.Goals as goal

@@ -1,3 +1,4 @@
+-- What search doesn't prove of `push_joined`: the clause `same`, by lemmas of `Joined`.
 use Rattle.search_plans.proofs.Joined.{implied_push}
 use Rattle.search_plans.proofs.joining.push_joined.Goals as goal
 

@@ -1,3 +1,4 @@
+-- What search doesn't prove of `upper_bound`: the clause `implied`, by lemmas of `Joined`.
 use Rattle.search_plans.proofs.Joined.{implied_by_one}
 use Rattle.search_plans.proofs.joining.upper_bound.Goals as goal
 

@@ -1,3 +1,5 @@
+-- What search doesn't prove of `leaf_side`: the clause `bounds` and what it returns, by lemmas of `Rows` and
+-- `RunLists`.
 use Rattle.std.proofs.Common.{◌≡◌, true, false, sym, ◌∙◌}
 use Rattle.search_plans.proofs.Rows.{if_ok_weaker}
 use Rattle.search_plans.proofs.RunLists.{unknown_side, other_side, if_ok_both}

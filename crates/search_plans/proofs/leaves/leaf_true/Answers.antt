@@ -1,3 +1,4 @@
+-- What search doesn't prove of `leaf_true`: the clause `runs`, by lemmas of `RunLists`.
 use Rattle.std.proofs.Common.{sym, ◌∙◌}
 use Rattle.search_plans.proofs.RunLists.{true_has_runs}
 use Rattle.search_plans.proofs.leaves.leaf_true.Goals as goal

@@ -1,3 +1,4 @@
+-- What search doesn't prove of `listed`: what it returns, by lemmas of `LeafPlans`.
 use Rattle.search_plans.proofs.LeafPlans.{listed_present, listed_equal, listed_at_least, listed_at_most, listed_unknown}
 use Rattle.search_plans.proofs.leaves.listed.Goals as goal
 

@@ -1,3 +1,4 @@
+-- What search doesn't prove of `possible`: the clause `bounds`, by lemmas of `Rows` and `RunLists`.
 use Rattle.std.proofs.Common.{◌≡◌, true, sym, ap, ◌∙◌}
 use Rattle.dir_index.specs.index_choice.declared.kinds.Kinds.{Kinds}
 use Rattle.dir_index.specs.index_choice.Choice.{kinds_of}

@@ -1,3 +1,4 @@
+-- What search doesn't prove of `possible_by_runs`: what it returns, by lemmas of `RunLists`.
 use Rattle.search_plans.proofs.RunLists.{run_plan}
 use Rattle.search_plans.proofs.leaves.possible_by_runs.Goals as goal
 

@@ -1,3 +1,4 @@
+-- What search doesn't prove of `possible_by_type`: what it returns, by lemmas of `LeafPlans`.
 use Rattle.std.proofs.Common.{sym, ap, ◌∙◌}
 use Rattle.dir_index.specs.index_choice.declared.kinds.Kinds.{Kinds}
 use Rattle.search_plans.proofs.LeafPlans.{possible_present}

@@ -1,3 +1,5 @@
+-- What search doesn't prove of `+list`: the clause `same`, the clause `exact` and `push_each_listed-loop-i-preserved`,
+-- by lemmas of `Listed`.
 use Rattle.std.proofs.Common.{◌||◌, Bool, sym, ap, ap₂, ◌∙◌, arith}
 use Rattle.std.specs.List.{list_any}
 use Rattle.search_plans.specs.Sets.{is_in}

@@ -1,3 +1,4 @@
+-- What search doesn't prove of `listed`: the clause `same` and the clause `exact`, by lemmas of `Rising`.
 use Rattle.std.proofs.Common.{◌||◌, sym, ap, ◌∙◌}
 use Rattle.std.specs.List.{list_any}
 use Rattle.dir_index.specs.Postings.{has_number}

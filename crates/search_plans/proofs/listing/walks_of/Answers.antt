@@ -1,3 +1,4 @@
+-- What search doesn't prove of `walks_of`: the clause `exact`, by lemmas of `Listed` and `Rising`.
 use Rattle.std.proofs.Common.{ap, ◌∙◌}
 use Rattle.std.specs.List.{list_any}
 use Rattle.dir_index.specs.Postings.{has_number}

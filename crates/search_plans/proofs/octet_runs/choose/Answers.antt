@@ -1,3 +1,4 @@
+-- What search doesn't prove of `choose`: what it returns, by lemmas of `RunLists`.
 use Rattle.std.proofs.Common.{ap}
 use Rattle.ldap_eval.specs.ldap_syntax.Parts.{part_or_nothing}
 use Rattle.search_plans.proofs.RunLists.{runs_whole}

@@ -1,3 +1,4 @@
+-- What search doesn't prove of `push_all_runs`: `loop-part-preserved`, by lemmas of `RunLists`.
 use Rattle.search_plans.proofs.RunLists.{runs_more}
 use Rattle.search_plans.proofs.octet_runs.push_all_runs.Goals as goal
 

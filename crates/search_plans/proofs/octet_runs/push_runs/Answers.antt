@@ -1,3 +1,4 @@
+-- What search doesn't prove of `push_runs`: what it returns, by lemmas of `RunLists`.
 use Rattle.std.proofs.Common.{◌≤◌, length, arith}
 use Rattle.search_plans.specs.OctetRuns.{runs_of}
 use Rattle.search_plans.proofs.RunLists.{runs_end, runs_full}

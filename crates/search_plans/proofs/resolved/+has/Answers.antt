@@ -1,3 +1,5 @@
+-- What search doesn't prove of `+has`: the clause `same`, `any_has-loop-i-preserved`, the clause `found` and
+-- `all_have-loop-i-preserved`, by lemmas of `Forward`, `Gathered` and `ResolvedPlans`.
 use Rattle.std.proofs.Common.{◌∙◌, sym, ap, refl, arith}
 use Rattle.std.proofs.lemmas.List.Folds.{list_all-map}
 use Rattle.search_plans.specs.declared.resolved.ResolvedPlan.{ResolvedPlan}

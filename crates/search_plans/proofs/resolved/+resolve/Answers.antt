@@ -1,3 +1,6 @@
+-- What search doesn't prove of `+resolve`: `resolve-returns-in_ok-resolve_each-in-Union`,
+-- `resolve-returns-in_ok-resolve_each-in-Inter`, `resolve-returns-in_ok-second-in-Minus`,
+-- `resolve_each-loop-plan-preserved` and `resolve_each-returns`, by lemmas of `ResolvedPlans` and `Rows`.
 use Rattle.search_plans.proofs.ResolvedPlans.{resolved_union, resolved_inter, resolved_minus, resolved_more, resolved_all}
 use Rattle.search_plans.proofs.Rows.{if_ok_weaker}
 use Rattle.search_plans.proofs.resolved.+resolve.Goals as goal

@@ -1,3 +1,4 @@
+-- What search doesn't prove of `resolve_unless_sure`: what it returns, by lemmas of `Rows`.
 use Rattle.search_plans.proofs.Rows.{if_ok_weaker}
 use Rattle.search_plans.proofs.resolved.resolve_unless_sure.Goals as goal
 

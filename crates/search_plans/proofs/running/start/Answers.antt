@@ -1,3 +1,4 @@
+-- What search doesn't prove of `start`: the invariant and the clause `numbers`, by lemmas of `Rising` and `Started`.
 use Rattle.search_plans.specs.Sets.{is_in}
 use Rattle.search_plans.proofs.Rising.{drawn}
 use Rattle.search_plans.proofs.Started.{started, started_numbers, same_as_plan, sure_may}

@@ -1,3 +1,4 @@
+-- What search doesn't prove of `least_head`: `loop-walk-preserved`, by lemmas of `StreamSteps`.
 use Rattle.search_plans.proofs.StreamSteps.{least_step}
 use Rattle.search_plans.proofs.stream.least_head.Goals as goal
 

@@ -1,3 +1,4 @@
+-- What search doesn't prove of `skip`: `loop-walk-preserved`, by lemmas of `StreamSteps`.
 use Rattle.std.proofs.Common.{ap, sym, ◌∙◌, length, List, ℕ, arith, ◌≡◌}
 use Rattle.search_plans.specs.private.Streams.{behind}
 use Rattle.search_plans.proofs.StreamSteps.{skip_step}

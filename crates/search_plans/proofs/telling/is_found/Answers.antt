@@ -1,3 +1,4 @@
+-- What search doesn't prove of `is_found`: the clause `must` and the clause `may`, step by step.
 use Rattle.std.proofs.Common.{ℕ, Bool, ap, ◌∙◌}
 use Rattle.search_plans.specs.declared.resolved.ResolvedSides.{ResolvedSides}
 use Rattle.search_plans.specs.private.Resolved.{is_in_resolved}

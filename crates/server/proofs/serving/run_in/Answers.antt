@@ -1,3 +1,4 @@
+-- What search doesn't prove of `run_in`: what `run` requires, by lemmas of `Crossing` and `Crossing` (`node_gate`).
 use borrow.Author.Rules.{rules}
 use denote.Param as Param
 use denote.Param.Send.{IsSend, IsSync, sendable, param_sync}

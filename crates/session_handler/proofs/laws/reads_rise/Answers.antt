@@ -1,3 +1,4 @@
+-- What search doesn't prove of `reads_rise`: what it returns, by lemmas of `Risen`.
 use Rattle.session_handler.proofs.Risen.{reads_rise}
 use Rattle.session_handler.proofs.laws.reads_rise.Goals as goal
 

@@ -1,3 +1,4 @@
+-- What search doesn't prove of `role_is_first`: what it returns, by lemmas of `Joining`.
 use Rattle.session_handler.proofs.Joining.{role_first}
 use Rattle.session_handler.proofs.laws.role_is_first.Goals as goal
 

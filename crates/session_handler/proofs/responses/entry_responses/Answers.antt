@@ -1,3 +1,5 @@
+-- What search doesn't prove of `entry_responses`: the clause `too_long` and `loop-entry-preserved`, by lemmas of
+-- `EntryLists`.
 use Rattle.std.proofs.Common.{rules}
 use Rattle.std.proofs.lemmas.Result.{err_from_is_err_and}
 use Rattle.session_handler.proofs.EntryLists.{same_error, too_long_at, too_long_more, written_more}

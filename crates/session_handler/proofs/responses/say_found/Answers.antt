@@ -1,3 +1,4 @@
+-- What search doesn't prove of `say_found`: what it returns, by lemmas of `EntryLists`.
 use Rattle.std.proofs.Common.{ap, map, Err}
 use Rattle.std.proofs.lemmas.Result.{err_from_is_err_and}
 use Rattle.request_checks.specs.ldap_msg.Messages.{ResponseValue}

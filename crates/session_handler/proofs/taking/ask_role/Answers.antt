@@ -1,3 +1,4 @@
+-- What search doesn't prove of `ask_role`: what it returns, step by step.
 use Rattle.directory_api.specs.Talk.{ends, goes}
 use Rattle.session_handler.proofs.taking.ask_role.Goals as goal
 

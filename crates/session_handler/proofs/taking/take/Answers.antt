@@ -1,3 +1,4 @@
+-- What search doesn't prove of `take`: what it returns, by lemmas of `Turning`.
 use Rattle.std.proofs.Common.{refl}
 use Rattle.session_handler.proofs.Turning.{said_is_done, answered, inquired}
 use Rattle.session_handler.proofs.taking.take.Goals as goal

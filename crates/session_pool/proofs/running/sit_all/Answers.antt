@@ -1,3 +1,4 @@
+-- What search doesn't prove of `sit_all`: what `map_vec` requires, by lemmas of `Crossing`.
 use denote.Param as Param
 use denote.Param.Send.{IsSync, sendable}
 use denote.Ref.{NamedLft}

@@ -1,3 +1,4 @@
+-- What search doesn't prove of `roused`: what it returns, step by step.
 use Rattle.std.proofs.Common.{refl}
 use Rattle.session_table.proofs.places.roused.Goals as goal
 

@@ -1,3 +1,4 @@
+-- What search doesn't prove of `reaches`: what it returns, by lemmas of `Order` and `Parts`.
 use Rattle.std.proofs.Common.{◌-◌, length, sym, ap, ◌∙◌, arith}
 use borrow.Author.Tests.{eqb-false}
 use Rattle.std.specs.Ordering.{is_lt}

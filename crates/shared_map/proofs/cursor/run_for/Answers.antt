@@ -1,3 +1,4 @@
+-- What search doesn't prove of `run_for`: what it returns, by lemmas of `Parts`.
 use Rattle.std.proofs.Common.{refl, ap, subst, ◌∙◌}
 use Rattle.std.specs.Map.{lookup}
 use Rattle.std.specs.BTreeMap.{is_at}

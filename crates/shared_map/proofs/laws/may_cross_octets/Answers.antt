@@ -1,3 +1,4 @@
+-- What search doesn't prove of `may_cross_octets`: what `crosses` requires, by lemmas of `Crossing`.
 use Rattle.shared_map.proofs.Crossing.{map_crosses}
 use denote.Param.Send.{sendable}
 use Rattle.std.proofs.Crossing.{crosses}

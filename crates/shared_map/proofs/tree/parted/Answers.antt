@@ -1,3 +1,5 @@
+-- What search doesn't prove of `parted`: what `leaf` requires and what `fork` requires, by lemmas of `Order` and
+-- `Parting`.
 use Rattle.std.proofs.Common.{sym, ap, subst, ◌∙◌, take, drop, take-append-drop}
 use Rattle.shared_map.specs.Entries.{Rises}
 use Rattle.shared_map.proofs.Order.{rest_is, rises_front, rises_back, parted_at}

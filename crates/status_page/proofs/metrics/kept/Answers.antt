@@ -1,3 +1,4 @@
+-- What search doesn't prove of `kept`: what it returns, by lemmas of `Written`.
 use Rattle.std.proofs.Common.{string_bytes}
 use Rattle.status_page.proofs.Written.{written_as, three}
 use Rattle.status_page.proofs.metrics.kept.Goals as goal

@@ -1,3 +1,4 @@
+-- What search doesn't prove of `of_others`: what it returns, by lemmas of `Written`.
 use Rattle.std.proofs.Common.{string_bytes}
 use Rattle.status_page.proofs.Written.{written_as, two}
 use Rattle.status_page.proofs.metrics.of_others.Goals as goal

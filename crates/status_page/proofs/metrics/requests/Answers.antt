@@ -1,3 +1,4 @@
+-- What search doesn't prove of `requests`: what it returns, by lemmas of `Written`.
 use Rattle.std.proofs.Common.{codes, [], ◌∙◌, string_bytes}
 use Rattle.status_page.specs.Metrics.{request_samples}
 use Rattle.status_page.proofs.Written.{figure_of}

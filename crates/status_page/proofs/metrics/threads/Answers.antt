@@ -1,3 +1,4 @@
+-- What search doesn't prove of `threads`: what it returns, by lemmas of `Written`.
 use Rattle.std.proofs.Common.{string_bytes}
 use Rattle.status_page.proofs.Written.{written_as, four}
 use Rattle.status_page.proofs.metrics.threads.Goals as goal

@@ -1,3 +1,4 @@
+-- What search doesn't prove of `figure`: what it returns, by lemmas of `Written`.
 use Rattle.std.proofs.Common.{append_assoc, string_bytes}
 use Rattle.status_page.proofs.Written.{written_as}
 use Rattle.status_page.proofs.samples.figure.Goals as goal

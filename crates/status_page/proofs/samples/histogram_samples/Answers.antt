@@ -1,3 +1,4 @@
+-- What search doesn't prove of `histogram_samples`: what it returns, by lemmas of `Written`.
 use Rattle.std.proofs.Common.{List, ap, ◌∙◌, flat_map, string_bytes}
 use Rattle.status_page.specs.declared.figures.Bucket.{Bucket}
 use Rattle.status_page.specs.Samples.{bucket_sample}

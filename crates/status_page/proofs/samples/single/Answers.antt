@@ -1,3 +1,4 @@
+-- What search doesn't prove of `single`: what it returns, by lemmas of `Written`.
 use Rattle.std.proofs.Common.{◌≡◌, ◌++◌, codes, ◌∙◌, append_assoc, string_bytes, decimal}
 use Rattle.status_page.specs.Samples.{sample}
 use Rattle.status_page.proofs.Written.{figure_of}

@@ -1,3 +1,4 @@
+-- What search doesn't prove of `page`: what it returns, by lemmas of `Written`.
 use Rattle.std.proofs.Common.{codes, ◌∙◌, string_bytes}
 use Rattle.status_page.specs.Pages.{metrics_text}
 use Rattle.status_page.proofs.Written.{response_of}

@@ -1,3 +1,4 @@
+-- What search doesn't prove of `replica`: what it returns, by lemmas of `Written`.
 use Rattle.std.proofs.Common.{ℕ, List, codes, ap, ◌∙◌, string_bytes}
 use Rattle.status_page.specs.Samples.{figure}
 use Rattle.status_page.proofs.Written.{written_as, four}

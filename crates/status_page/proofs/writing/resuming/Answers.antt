@@ -1,3 +1,4 @@
+-- What search doesn't prove of `resuming`: what it returns, by lemmas of `Written`.
 use Rattle.std.proofs.Common.{◌≡◌, ◌++◌, codes, decimal, ◌∙◌, append_assoc, string_bytes}
 use Rattle.status_page.specs.Pages.{resuming_text}
 use Rattle.status_page.proofs.Written.{response_of}

@@ -1,3 +1,4 @@
+-- What search doesn't prove of `has_bad_escape`: `loop-octet-preserved`, by lemmas of `Escaping`.
 use Rattle.std.proofs.Common.{◌+◌, ap, sym, ◌∙◌, drop}
 use Rattle.text_faults.specs.private.Names.{scan_of}
 use Rattle.text_faults.proofs.Escaping.{fails_by, fails_drop}

@@ -1,3 +1,4 @@
+-- What search doesn't prove of `less_front`: what it returns, step by step.
 use Rattle.std.proofs.lemmas.Str.Ascii.{trim_ascii_start_is}
 use Rattle.text_faults.proofs.names.less_front.Goals as goal
 

@@ -1,3 +1,4 @@
+-- What search doesn't prove of `no_name`: what it returns, by lemmas of `Written`.
 use Rattle.std.proofs.Common.{codes, string_bytes}
 use Rattle.text_faults.proofs.Written.{one_word}
 use Rattle.text_faults.proofs.names.no_name.Goals as goal

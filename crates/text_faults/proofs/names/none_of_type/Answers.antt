@@ -1,3 +1,4 @@
+-- What search doesn't prove of `none_of_type`: what it returns, by lemmas of `Written`.
 use Rattle.std.proofs.Common.{codes, string_bytes}
 use Rattle.text_faults.proofs.Written.{two_words}
 use Rattle.text_faults.proofs.names.none_of_type.Goals as goal

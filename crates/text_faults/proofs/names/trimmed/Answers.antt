@@ -1,3 +1,4 @@
+-- What search doesn't prove of `trimmed`: what it returns, step by step.
 use Rattle.std.proofs.Common.{refl}
 use Rattle.std.proofs.lemmas.Str.Ascii.{trim_ascii_is}
 use Rattle.text_faults.specs.Names.{less_front}

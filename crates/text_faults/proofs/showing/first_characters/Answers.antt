@@ -1,3 +1,4 @@
+-- What search doesn't prove of `first_characters`: what it returns, step by step.
 use Rattle.std.proofs.Common.{ap, ◌∙◌}
 use Rattle.std.proofs.lemmas.Iterator.{items_from_collect, YieldsList-from_chars, YieldsList-from_take}
 use Rattle.std.specs.Str.Iter.{chars_rest}

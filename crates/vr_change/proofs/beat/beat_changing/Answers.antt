@@ -1,3 +1,5 @@
+-- What search doesn't prove of `beat_changing`: the clause `step` and the clause `store`, by lemmas of `Changing` and
+-- `Stores` (`vr_state`).
 use Rattle.std.proofs.Common.{ap, refl, ◌∙◌}
 use Rattle.vr_state.specs.Views.{state}
 use Rattle.vr_state.proofs.Stores.{none_to_store}

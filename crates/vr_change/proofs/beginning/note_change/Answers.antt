@@ -1,3 +1,4 @@
+-- What search doesn't prove of `note_change`: the clause `step`, by lemmas of `Changing`.
 use Rattle.std.proofs.lemmas.Result.{IfOk-weaker}
 use Rattle.vr_state.specs.Views.{state}
 use Rattle.vr_change.proofs.Changing.{change_again, change_noted}

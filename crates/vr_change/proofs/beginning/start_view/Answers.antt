@@ -1,3 +1,4 @@
+-- What search doesn't prove of `start_view`: what it returns, step by step.
 use Rattle.std.proofs.lemmas.Result.{IfOk-weaker}
 use Rattle.std.proofs.Common.{ap, ◌∙◌, ◌++◌}
 use Rattle.vr_state.specs.declared.message.PeerMessage.TheVariants.{StartView}

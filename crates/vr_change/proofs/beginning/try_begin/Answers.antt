@@ -1,3 +1,4 @@
+-- What search doesn't prove of `try_begin`: the clause `step`, by lemmas of `Changing`.
 use Rattle.std.proofs.lemmas.Result.{IfOk-weaker}
 use Rattle.std.proofs.Common.{Some, None, sym, ap, ◌∙◌}
 use Rattle.vr_state.specs.Views.{state}

@@ -1,3 +1,4 @@
+-- What search doesn't prove of `best`: `loop-sender-init`, by lemmas of `Chosen`.
 use Rattle.vr_change.proofs.Chosen.{best_none}
 use Rattle.vr_change.proofs.choosing.best.Goals as goal
 

@@ -1,3 +1,4 @@
+-- What search doesn't prove of `declare`: the clause `step`, by lemmas of `Changing`.
 use Rattle.std.proofs.Common.{ap}
 use Rattle.vr_state.specs.Views.{state}
 use Rattle.vr_change.proofs.Changing.{declared_is}

@@ -1,3 +1,4 @@
+-- What search doesn't prove of `note_at_primary`: the clause `step`, by lemmas of `Changing`.
 use Rattle.std.proofs.lemmas.Result.{IfOk-weaker}
 use Rattle.std.proofs.Common.{ap, ◌∙◌}
 use Rattle.vr_state.specs.Views.{state}

@@ -1,3 +1,4 @@
+-- What search doesn't prove of `note_in_view`: the clause `step`, by lemmas of `Changing`.
 use Rattle.std.proofs.lemmas.Result.{IfOk-weaker}
 use Rattle.vr_state.specs.Outcome.{idle}
 use Rattle.vr_state.specs.Views.{state}

@@ -1,3 +1,5 @@
+-- What search doesn't prove of `on_do_view_change`: the clause `step` and the clause `store`, by lemmas of `Changing`
+-- and `Stores` (`vr_state`).
 use Rattle.std.proofs.lemmas.Result.{IfOk-weaker}
 use Rattle.std.proofs.Common.{sym, ◌∙◌}
 use Rattle.vr_state.specs.Views.{state}

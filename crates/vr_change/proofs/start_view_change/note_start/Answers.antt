@@ -1,3 +1,4 @@
+-- What search doesn't prove of `note_start`: the clause `step`, by lemmas of `Changing`.
 use Rattle.std.proofs.Common.{ℕ, ◌+◌, ◌==◌, List, length, sym, ap, ◌∙◌}
 use Rattle.std.specs.List.{list_any}
 use Rattle.vr_state.specs.Views.{state, outcome}

@@ -1,3 +1,4 @@
+-- What search doesn't prove of `on_suspect`: the clause `step`, by lemmas of `Changing`.
 use Rattle.std.proofs.Common.{sym, ap, ◌∙◌}
 use Rattle.vr_state.specs.Views.{state}
 use Rattle.vr_change.proofs.Changing.{suspecting, unsuspecting}

@@ -1,3 +1,4 @@
+-- What search doesn't prove of `acknowledging`: `loop-other-preserved`, by lemmas of `Reaching`.
 use Rattle.std.proofs.Common.{nat_le, slice_index, ◌∙◌, arith, le-leb}
 use Rattle.std.proofs.lemmas.Bool.{lt-leb}
 use Rattle.vr_normal.proofs.Reaching.{count_with, count_without, count_same}

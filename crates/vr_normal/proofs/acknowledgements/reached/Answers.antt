@@ -1,3 +1,4 @@
+-- What search doesn't prove of `reached`: `loop-other-preserved`, by lemmas of `Reaching`.
 use Rattle.std.proofs.Common.{◌∙◌, length}
 use Rattle.vr_state.specs.Outcome.{others}
 use Rattle.vr_normal.proofs.Reaching.{reached_with, reached_without, reached_same}

@@ -1,3 +1,4 @@
+-- What search doesn't prove of `beat_primary`: the clause `step`, by lemmas of `Asking`.
 use Rattle.std.proofs.Common.{ap, ◌∙◌}
 use Rattle.vr_state.specs.Views.{state}
 use Rattle.vr_normal.proofs.Asking.{beat_again, beat_whole}

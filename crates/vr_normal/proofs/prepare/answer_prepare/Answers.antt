@@ -1,3 +1,5 @@
+-- What search doesn't prove of `answer_prepare`: the clause `step` and the clause `store`, by lemmas of `Steps` and
+-- `Laws` (`vr_state`).
 use Rattle.std.proofs.Common.{ap, ◌∙◌}
 use Rattle.vr_state.specs.Views.{state}
 use Rattle.vr_normal.proofs.Steps.{prepared_is, view_kept}

@@ -1,3 +1,4 @@
+-- What search doesn't prove of `acknowledge`: the clause `step`, by lemmas of `Steps`.
 use Rattle.std.proofs.Common.{◌≡◌, List, ℕ, ◌/◌, max, min, length, slice_index, slice_set, ap, ◌∙◌}
 use Rattle.std.proofs.lemmas.List.{length-set}
 use Rattle.vr_state.specs.Outcome.{others}

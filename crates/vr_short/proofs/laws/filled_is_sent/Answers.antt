@@ -1,3 +1,4 @@
+-- What search doesn't prove of `filled_is_sent`: what it returns, by lemmas of `Filled`.
 use Rattle.vr_short.proofs.Filled.{refilled}
 use Rattle.vr_short.proofs.laws.filled_is_sent.Goals as goal
 

@@ -1,3 +1,4 @@
+-- What search doesn't prove of `read_is_sent`: what it returns, step by step.
 use Rattle.std.proofs.Common.{◌≡◌, subst}
 use Rattle.vr_short.specs.Short.{filled, shortened}
 use Rattle.vr_short.proofs.laws.read_is_sent.Goals as goal

@@ -1,3 +1,4 @@
+-- What search doesn't prove of `cut_entries`: what it returns and `loop-counter-preserved`, by lemmas of `Loop`.
 use Rattle.std.proofs.lemmas.Result.{err_from_is_err_and}
 use Rattle.vr_wire.specs.private.Cutting.{cut_entries}
 use Rattle.vr_wire.proofs.Loop.{goes_on, ends}

@@ -1,3 +1,4 @@
+-- What search doesn't prove of `entries_of`: what it returns and `loop-entry-preserved`, by lemmas of `Stands`.
 use Rattle.std.proofs.Common.{◌+◌, arith}
 use Rattle.std.proofs.lemmas.Result.{err_from_is_err_and}
 use Rattle.vr_wire.proofs.Stands.{entries_push, entries_refused}

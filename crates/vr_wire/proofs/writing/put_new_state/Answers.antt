@@ -1,3 +1,4 @@
+-- What search doesn't prove of `put_new_state`: the clause `spelled`, by lemmas of `PutLaws`.
 use Rattle.std.proofs.Common.{ℕ, List, ◌++◌, ap, subst, append_assoc}
 use Rattle.ldap_op.specs.Values.{OpValue}
 use Rattle.vr_state.specs.Words.{LogEntry}

@@ -1,3 +1,4 @@
+-- What search doesn't prove of `has_repeats`: what it returns, by lemmas of `Equivalents`.
 use Rattle.std.proofs.Common.{Option, ◌≡◌, ap, sym, ◌∙◌}
 use Rattle.ldap_match.specs.ldap_words.declared.rule.Rule.{Rule}
 use Rattle.ldap_match.specs.ldap_schema.Schema.{SchemaModel}

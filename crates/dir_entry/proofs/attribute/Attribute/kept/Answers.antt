@@ -1,3 +1,4 @@
+-- What search doesn't prove of `kept`: the invariant, by lemmas of `Picked`.
 use Rattle.std.proofs.Common.{map, ap, sym, ◌∙◌}
 use Rattle.ldap_match.specs.ldap_syntax.Forms.{form_of}
 use Rattle.dir_entry.specs.Kept.{values_in}

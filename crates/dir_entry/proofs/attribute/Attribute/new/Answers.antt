@@ -1,3 +1,4 @@
+-- What search doesn't prove of `new`: the clause `refused` and the clause `in_syntax`, by lemmas of `Keyed`.
 use Rattle.std.proofs.Common.{ℕ, Result, Err, Vec, Global, ◌≡◌, ap, sym, ◌∙◌}
 use Rattle.std.proofs.lemmas.Result.{err_from_is_err_and}
 use Rattle.std.specs.List.{list_all}

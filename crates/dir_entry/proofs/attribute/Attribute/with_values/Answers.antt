@@ -1,3 +1,4 @@
+-- What search doesn't prove of `with_values`: the clause `keyed`, by lemmas of `Keyed`.
 use Rattle.std.proofs.Common.{ℕ, List, ◌≡◌, ◌++◌, ap, sym, subst, ◌∙◌}
 use Rattle.ldap_match.specs.Keyed.{AreKeysOf}
 use Rattle.dir_entry.specs.Entry.{KeyedAttribute}

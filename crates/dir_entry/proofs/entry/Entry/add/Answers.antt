@@ -1,3 +1,4 @@
+-- What search doesn't prove of `add`: the clause `keyed`, by lemmas of `Keyed`.
 use Rattle.std.proofs.Common.{List, subst, sym}
 use Rattle.dir_entry.specs.Entry.{KeyedAttribute, IsKeyedBy}
 use Rattle.dir_entry.proofs.Keyed.{keyed_push}

@@ -1,3 +1,4 @@
+-- What search doesn't prove of `changed`: the clause `has` and the clause `rising`, by lemmas of `Numbers`.
 use Rattle.std.proofs.Common.{◌≡◌, Bool, cond, not, List, nat_eq, sym, ap, ◌∙◌, subst}
 use Rattle.std.specs.Prelude.{◌&&◌}
 use Rattle.index_choice.specs.declared.kinds.Kinds.{Kinds}

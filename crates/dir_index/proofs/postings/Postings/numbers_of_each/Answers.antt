@@ -1,3 +1,4 @@
+-- What search doesn't prove of `numbers_of_each`: what it returns, by lemmas of `Lookups`.
 use Rattle.std.proofs.Common.{◌≡◌, ◌≤◌, ℕ, List, [], ◌++◌, length, drop, map, sym, ap, ◌∙◌}
 use Rattle.std.proofs.lemmas.List.{append-nil, drop_all}
 use Rattle.std.specs.Prelude.{option_copied}

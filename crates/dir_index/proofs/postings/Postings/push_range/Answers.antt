@@ -1,3 +1,4 @@
+-- What search doesn't prove of `push_range`: what it returns, by lemmas of `Marking` and `Ranged`.
 use Rattle.std.proofs.Common.{◌≡◌, Bool, true, false, not, List, sym, ap, ◌∙◌, subst}
 use Rattle.std.specs.Prelude.{◌||◌}
 use Rattle.index_choice.specs.dir_entry.shared_map.Entries.{Rises}

@@ -1,3 +1,4 @@
+-- What search doesn't prove of `replace`: the clause `ok`, by lemmas of `Listed`.
 use Rattle.std.proofs.Common.{List, sym, ap, subst}
 use Rattle.index_choice.specs.dir_entry.Entry.{KeyedAttribute}
 use Rattle.index_choice.specs.declared.kinds.Kinds.{Kinds}

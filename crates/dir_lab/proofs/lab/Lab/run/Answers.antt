@@ -1,3 +1,5 @@
+-- What search doesn't prove of `run`: the clause `searches`, the clause `replies`, the clause `committed` and the
+-- clause `shown`, by lemmas of `Committed`, `Replies`, `Schedules` and `Searches`.
 use Rattle.std.proofs.Common.{map, ◌∙◌, arith}
 use Rattle.std.proofs.lemmas.List.{nil_from_length}
 use Rattle.std.specs.Arc.{arc_value}

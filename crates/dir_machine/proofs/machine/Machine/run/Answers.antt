@@ -1,3 +1,5 @@
+-- What search doesn't prove of `run`: `loop-event-init`, `loop-event-preserved` and what it returns, by lemmas of
+-- `Played`.
 use Rattle.std.proofs.Common.{◌≡◌, arith, rules, subst, sym, List}
 use Rattle.std.proofs.lemmas.List.{nil_from_length}
 use Rattle.dir_machine.proofs.Played.{IsPlayedSoFar, all_so_far, none_so_far, one_so_far}

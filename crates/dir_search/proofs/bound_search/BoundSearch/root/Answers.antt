@@ -1,3 +1,4 @@
+-- What search doesn't prove of `root`: what it returns, step by step.
 use Rattle.dir_search.proofs.bound_search.BoundSearch.root.Goals as goal
 
 pub returns : goal.returns

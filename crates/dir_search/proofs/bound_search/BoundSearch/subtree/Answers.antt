@@ -1,3 +1,4 @@
+-- What search doesn't prove of `subtree`: what `numbers_within-numbers` requires, by lemmas of `Scoped`.
 use Rattle.dir_search.proofs.Scoped.{stands_found}
 use Rattle.dir_search.proofs.bound_search.BoundSearch.subtree.Goals as goal
 

@@ -1,3 +1,5 @@
+-- What search doesn't prove of `show_found`: `loop-number-init`, `loop-number-preserved` and what it returns, by lemmas
+-- of `Limits` and `Shown`.
 use Rattle.std.proofs.Common.{◌∙◌, refl, sym, ap, subst, List, ℕ, length, map, string_bytes}
 use Rattle.std.proofs.lemmas.List.{length-map}
 use Rattle.indexed_tree.specs.directory_api.ldap_msg.Messages.{SearchResultEntryValue}

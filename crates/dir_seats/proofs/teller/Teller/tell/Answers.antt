@@ -1,3 +1,4 @@
+-- What search doesn't prove of `tell`: what `reader` requires, by lemmas of `Kept`.
 use Rattle.dir_seats.proofs.Kept.{admits}
 use Rattle.dir_seats.proofs.teller.Teller.tell.Goals as goal
 

@@ -1,3 +1,4 @@
+-- What search doesn't prove of `apply`: the clause `below`, by lemmas of `Below`.
 use Rattle.std.proofs.Common.{ap}
 use Rattle.entry_updates.specs.ldap_op.View.{update_view}
 use Rattle.indexed_tree.specs.Listed.{StoreModel}

@@ -1,3 +1,5 @@
+-- What search doesn't prove of `added`: the clause `tree` and the clause `shown`, by lemmas of `LevelFacts` and
+-- `Updates`.
 use Rattle.std.proofs.Common.{List, ap, ◌∙◌}
 use Rattle.dir_entry.specs.ldap_dn.Names.{RdnModel}
 use Rattle.dir_tree.specs.declared.roots.Roots.{Roots}

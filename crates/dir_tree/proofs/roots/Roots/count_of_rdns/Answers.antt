@@ -1,3 +1,4 @@
+-- What search doesn't prove of `count_of_rdns`: `loop-i-preserved`, by lemmas of `UpFacts`.
 use Rattle.std.proofs.Common.{◌≡◌, ◌≤◌, suc, ◌+◌, ◌-◌, arith}
 use Rattle.dir_tree.specs.Superiors.{place_at}
 use Rattle.dir_tree.proofs.UpFacts.{count_next}

@@ -1,3 +1,5 @@
+-- What search doesn't prove of `deleted`: what `removed` requires, the clause `tree` and the clause `shown`, by lemmas
+-- of `LevelFacts` and `Updates`.
 use Rattle.dir_entry.specs.ldap_dn.Names.{rdns}
 use Rattle.dir_tree.specs.declared.roots.Roots.{Roots}
 use Rattle.dir_tree.proofs.LevelFacts.{if_ok}

@@ -1,3 +1,4 @@
+-- What search doesn't prove of `front`: what it returns, by lemmas of `NameFacts`.
 use Rattle.std.proofs.Common.{Bool, ap, sym, ◌∙◌, ◌-◌, cond, length, drop}
 use Rattle.std.specs.Option.{option_map_or}
 use Rattle.dir_entry.specs.ldap_dn.Names.{rdns}

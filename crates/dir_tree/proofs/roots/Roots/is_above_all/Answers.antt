@@ -1,3 +1,4 @@
+-- What search doesn't prove of `is_above_all`: what it returns, by lemmas of `TreeReads` and `Shown`.
 use Rattle.std.proofs.Common.{sym, ◌∙◌}
 use Rattle.std.specs.Ordering.{nat_cmp}
 use Rattle.dir_entry.specs.shared_map.Runs.{entries_after}

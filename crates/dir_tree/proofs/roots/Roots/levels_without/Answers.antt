@@ -1,3 +1,4 @@
+-- What search doesn't prove of `levels_without`: what it returns, by lemmas of `LevelFacts` and `TreeSteps`.
 use Rattle.std.proofs.Common.{refl}
 use Rattle.dir_entry.specs.ldap_dn.Names.{rdns}
 use Rattle.dir_tree.specs.Superiors.{place_at}

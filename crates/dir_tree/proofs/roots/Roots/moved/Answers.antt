@@ -1,3 +1,4 @@
+-- What search doesn't prove of `moved`: what it returns, by lemmas of `LevelFacts` and `WayChanges`.
 use Rattle.std.proofs.Common.{List, ap, Some, ℕ}
 use Rattle.dir_entry.specs.ldap_dn.Names.{RdnModel}
 use Rattle.dir_tree.specs.Superiors.{place_at}

@@ -1,3 +1,4 @@
+-- What search doesn't prove of `number_of`: what it returns, by lemmas of `NameFacts`.
 use Rattle.std.proofs.Common.{Bool, ap, sym, ◌∙◌, cond, length, drop, None}
 use Rattle.std.specs.Option.{option_and_then}
 use Rattle.dir_entry.specs.ldap_dn.Names.{rdns}

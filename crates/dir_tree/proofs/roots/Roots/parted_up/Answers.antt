@@ -1,3 +1,4 @@
+-- What search doesn't prove of `parted_up`: `loop-i-preserved`, by lemmas of `WayChanges`.
 use Rattle.std.proofs.Common.{◌≡◌, ℕ, suc, ◌+◌, ◌-◌, ◌||◌, ap, sym, ◌∙◌, arith, nat_eq, Option}
 use Rattle.dir_tree.specs.Superiors.{place_at}
 use Rattle.dir_tree.specs.private.Superiors.{below_at}

@@ -1,3 +1,4 @@
+-- What search doesn't prove of `rdns`: what it returns, by lemmas of `UpFacts`.
 use denote.Bor.{Bor}
 use Rattle.dir_entry.specs.ldap_dn.Names.{RdnModel}
 use Rattle.dir_tree.proofs.UpFacts.{turned_back}

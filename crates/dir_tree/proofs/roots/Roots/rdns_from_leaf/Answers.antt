@@ -1,3 +1,4 @@
+-- What search doesn't prove of `rdns_from_leaf`: what it returns, by lemmas of `LevelFacts`.
 use Rattle.std.proofs.Common.{◌∙◌, sym, ap, map, reverse, Vec}
 use Rattle.std.specs.Global.{Global}
 use Rattle.std.proofs.lemmas.List.{reverse-reverse}

@@ -1,3 +1,4 @@
+-- What search doesn't prove of `rdns_up`: what it returns and `loop-i-preserved`, by lemmas of `UpFacts`.
 use Rattle.std.proofs.Common.{◌≡◌, ◌∙◌, suc, ◌+◌, ◌-◌, ◌++◌, arith, map, reverse, ap, List}
 use Rattle.dir_entry.specs.ldap_dn.Names.{RdnModel}
 use denote.Bor.{Bor}

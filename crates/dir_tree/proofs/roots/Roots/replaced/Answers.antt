@@ -1,3 +1,5 @@
+-- What search doesn't prove of `replaced`: the clause `tree` and the clause `shown`, by lemmas of `LevelFacts`, `Shown`
+-- and `TreeSteps`.
 use Rattle.std.proofs.Common.{ap, sym, ◌∙◌, subst}
 use Rattle.dir_tree.specs.declared.roots.Roots.{Roots}
 use Rattle.dir_tree.specs.Superiors.{place_at}

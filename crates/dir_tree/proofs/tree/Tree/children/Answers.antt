@@ -1,3 +1,4 @@
+-- What search doesn't prove of `children`: what it returns, by lemmas of `TreeReads`.
 use Rattle.std.proofs.Common.{subst, sym, ◌≡◌, Some, None}
 use Rattle.std.specs.Option.{option_map}
 use Rattle.dir_entry.specs.ldap_dn.Names.{rdns}

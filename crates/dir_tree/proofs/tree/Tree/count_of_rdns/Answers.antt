@@ -1,3 +1,4 @@
+-- What search doesn't prove of `count_of_rdns`: what it returns, by lemmas of `TreeReads`.
 use Rattle.std.proofs.Common.{subst, sym, ap, ◌≡◌, ◌∙◌, ℕ, Some, None, length}
 use Rattle.std.specs.Option.{option_map}
 use Rattle.dir_tree.specs.Directory.{TreeModel, Entered, entry_at}

@@ -1,3 +1,4 @@
+-- What search doesn't prove of `entry`: what it returns, by lemmas of `TreeReads`.
 use Rattle.std.proofs.Common.{subst, ◌≡◌, ◌∙◌, List}
 use Rattle.std.specs.Option.{option_map}
 use denote.Bor.{Bor}

@@ -1,3 +1,4 @@
+-- What search doesn't prove of `has_below`: what it returns, by lemmas of `TreeReads`.
 use Rattle.std.proofs.Common.{ap, ◌∙◌, nat_lt}
 use Rattle.dir_entry.specs.ldap_dn.Names.{rdns}
 use Rattle.dir_tree.proofs.TreeReads.{below_from}

@@ -1,3 +1,4 @@
+-- What search doesn't prove of `is_placed_as_spelled`: what it returns, by lemmas of `TreeReads`.
 use Rattle.std.proofs.Common.{subst}
 use Rattle.dir_entry.specs.ldap_dn.Names.{rdns}
 use Rattle.dir_tree.specs.Directory.{TreeModel}

@@ -1,3 +1,4 @@
+-- What search doesn't prove of `name`: what it returns, by lemmas of `TreeReads`.
 use Rattle.std.proofs.Common.{subst, sym, ap, ◌≡◌, ◌∙◌, Some, None, List}
 use Rattle.std.specs.Option.{option_map}
 use Rattle.dir_entry.specs.ldap_dn.Names.{RdnModel}

@@ -1,3 +1,4 @@
+-- What search doesn't prove of `rdn_above`: what it returns, by lemmas of `TreeReads`.
 use Rattle.std.proofs.Common.{subst, ◌≡◌, ◌∙◌, reverse, slice_get}
 use Rattle.std.specs.Option.{option_and_then, option_copied}
 use Rattle.dir_tree.specs.Directory.{TreeModel, Entered, entry_at}

@@ -1,3 +1,4 @@
+-- What search doesn't prove of `rdns_from_leaf`: what it returns, by lemmas of `TreeReads`.
 use Rattle.std.proofs.Common.{subst, sym, ap, ◌≡◌, ◌∙◌, Some, None, List, map, reverse}
 use Rattle.std.specs.Option.{option_map}
 use denote.Bor.{Bor}

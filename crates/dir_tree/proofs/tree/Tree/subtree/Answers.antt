@@ -1,3 +1,4 @@
+-- What search doesn't prove of `subtree`: what it returns, by lemmas of `TreeReads`.
 use Rattle.std.proofs.Common.{ℕ, List, subst, sym, ◌≡◌, None}
 use Rattle.std.specs.Option.{option_map}
 use denote.Bor.{Bor}

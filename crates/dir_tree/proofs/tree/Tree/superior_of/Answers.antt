@@ -1,3 +1,5 @@
+-- What search doesn't prove of `superior_of`: the clause `here` and the clause `name`, by lemmas of `TreeReads` and
+-- `Visits`.
 use Rattle.std.proofs.Common.{◌≡◌, [], ◌∷◌, ◌++◌, subst, refl}
 use Rattle.std.specs.Prelude.{IfSome, is_some, true}
 use Rattle.std.specs.Option.{option_map}

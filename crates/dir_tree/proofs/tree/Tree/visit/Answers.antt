@@ -1,3 +1,4 @@
+-- What search doesn't prove of `visit`: what `of` requires, by lemmas of `TreeReads`.
 use Rattle.std.proofs.Common.{subst}
 use Rattle.dir_tree.specs.Directory.{TreeModel}
 use Rattle.dir_tree.specs.private.Visits.{IsVisit}

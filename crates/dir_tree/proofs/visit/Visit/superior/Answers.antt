@@ -1,3 +1,4 @@
+-- What search doesn't prove of `superior`: the clause `here` and the clause `name`, by lemmas of `Visits`.
 use Rattle.std.proofs.Common.{◌≡◌, [], ◌∷◌, ◌++◌, subst, ap}
 use Rattle.std.specs.Prelude.{IfSome, is_some, true}
 use Rattle.std.specs.Option.{option_map}

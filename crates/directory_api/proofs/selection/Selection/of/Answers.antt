@@ -1,3 +1,4 @@
+-- What search doesn't prove of `of`: `loop-selector-init`, by lemmas of `Resolved`.
 use Rattle.std.proofs.Common.{ℕ, List, ap, length}
 use Rattle.std.specs.List.{list_any}
 use Rattle.std.specs.Ordering.{nat_cmp}

@@ -1,3 +1,4 @@
+-- What search doesn't prove of `is_empty`: what it returns, by lemmas of `Indexing`.
 use Rattle.std.proofs.Common.{Option, ap, sym, subst, ◌∙◌}
 use Rattle.dir_entry.specs.Entry.{KeyedAttribute}
 use Rattle.entry_changes.specs.Editing.{is_empty}

@@ -1,3 +1,4 @@
+-- What search doesn't prove of `sync`: the clause `crash`, by lemmas of `Histories`.
 use Rattle.std.proofs.Common.{◌≡◌, sym, subst}
 use Rattle.journal.specs.Memory.{MayLeave, seen_after}
 use Rattle.file_device.specs.History.{History}

@@ -1,3 +1,5 @@
+-- What search doesn't prove of `forget`: the invariant, `overflow_sub-self` and `overflow_sub-self-in-pieces-2`, by
+-- lemmas of `Copied`.
 use Rattle.std.proofs.Common.{◌<◌, length, arith}
 use Rattle.file_device.specs.History.{octets_of}
 use Rattle.file_device.proofs.Copied.{first_let, first_within}

@@ -1,3 +1,4 @@
+-- What search doesn't prove of `join`: the invariant, by lemmas of `Copied` and `Histories`.
 use Rattle.std.proofs.Common.{◌≡◌, [], ◌∷◌, ◌++◌, ap, ◌∙◌, refl, arith}
 use Rattle.file_device.specs.History.{octets_of}
 use Rattle.file_device.proofs.Copied.{joined}

@@ -1,3 +1,4 @@
+-- What search doesn't prove of `rename`: the invariant, by lemmas of `Listed`.
 use Rattle.std.proofs.Common.{refl, ap, subst, ◌∙◌, List}
 use Rattle.dir_index.specs.dir_entry.Entry.{KeyedAttribute}
 use Rattle.dir_index.specs.ldap_dn.Names.{rdns}

@@ -1,3 +1,4 @@
+-- What search doesn't prove of `in_range`: what it returns, by lemmas of `Ranged`.
 use Rattle.std.proofs.Common.{sym, ◌∙◌, Bool, List}
 use Rattle.std.specs.Prelude.{◌&&◌}
 use Rattle.dir_index.specs.dir_entry.Entry.{KeyedAttribute}

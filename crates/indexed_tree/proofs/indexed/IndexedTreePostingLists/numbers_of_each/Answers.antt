@@ -1,3 +1,4 @@
+-- What search doesn't prove of `numbers_of_each`: what it returns, step by step.
 use Rattle.std.proofs.Common.{◌≡◌, List, [], ◌∷◌, map, Result, Ok, Err, IfOk, refl, ap, ap₂, ◌∙◌}
 use Rattle.dir_index.specs.Whole.{list_of}
 use Rattle.indexed_tree.specs.Listed.{IndexedModel, lists_of}

@@ -1,3 +1,5 @@
+-- What search doesn't prove of `find`: the clause `number`, the clause `attributes` and the clause `keyed`, by lemmas
+-- of `Lookups` and `Shown`.
 use Rattle.std.proofs.Common.{ap, sym, subst, ◌∙◌}
 use Rattle.std.specs.Arc.{arc_value}
 use Rattle.std.specs.Option.{option_map}

@@ -1,3 +1,5 @@
+-- What search doesn't prove of `read_empty`: the clause `not_empty`, the clause `none`, the clause `empty` and the
+-- clause `any_moment`, by lemmas of `Advancing` and `Moments`.
 use Rattle.std.proofs.Common.{◌≡◌, List, ℕ, drop, sym, ap, ap₂, ◌∙◌, subst}
 use Rattle.journal.specs.Device.{LeavesOnly}
 use Rattle.journal.specs.Frames.{is_whole, recorded}

@@ -1,3 +1,5 @@
+-- What search doesn't prove of `reserve`: the clause `any_moment`, the clause `settled` and the clause `strings`, by
+-- lemmas of `Crash`, `Growing` and `Moments`.
 use Rattle.std.proofs.Common.{◌≡◌, List, ℕ, ◌++◌, replicate, ap, ◌∙◌}
 use Rattle.journal.specs.Device.{Only}
 use Rattle.journal.specs.Frames.{recorded}

@@ -1,3 +1,4 @@
+-- What search doesn't prove of `grow_by`: the invariant, by lemmas of `Mixing`.
 use Rattle.std.proofs.Common.{◌∷◌, sym, subst, map, reverse}
 use Rattle.journal.specs.Memory.{event, grow}
 use Rattle.journal.specs.private.Memory.{IsReplayed}

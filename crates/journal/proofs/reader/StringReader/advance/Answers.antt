@@ -1,3 +1,4 @@
+-- What search doesn't prove of `advance`: the clause `string` and the clause `read`, by lemmas of `Advancing`.
 use Rattle.std.proofs.Common.{◌≤◌, length, sym, ap, ◌∙◌, subst, arith}
 use Rattle.journal.specs.Frames.{head_length}
 use Rattle.journal.specs.Reading.{HasRead, ahead}

@@ -1,3 +1,4 @@
+-- What search doesn't prove of `clear`: what `clear` requires, by lemmas of `Advancing`.
 use Rattle.std.proofs.Common.{List, ℕ, sym, subst}
 use Rattle.journal.specs.Frames.{recorded}
 use Rattle.journal.specs.Journal.{IsRead}

@@ -1,3 +1,4 @@
+-- What search doesn't prove of `fill`: the clause `read` and the clause `filled`, by lemmas of `Advancing`.
 use Rattle.std.proofs.Common.{◌+◌, ◌-◌, ◌++◌, length, take, drop, ap, ◌∙◌, arith}
 use Rattle.journal.proofs.Advancing.{filled}
 use Rattle.journal.proofs.reader.StringReader.fill.Goals as goal

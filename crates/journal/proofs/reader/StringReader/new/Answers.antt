@@ -1,3 +1,4 @@
+-- What search doesn't prove of `new`: the clause `read`, by lemmas of `Advancing`.
 use Rattle.std.proofs.Common.{length, refl, sym, ap, ◌∙◌, rules}
 use Rattle.journal.proofs.Advancing.{first_read}
 use Rattle.journal.proofs.reader.StringReader.new.Goals as goal

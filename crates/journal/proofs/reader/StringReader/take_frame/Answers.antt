@@ -1,3 +1,4 @@
+-- What search doesn't prove of `take_frame`: what it returns, by lemmas of `Advancing`.
 use Rattle.journal.proofs.Advancing.{frame_taken}
 use Rattle.journal.proofs.reader.StringReader.take_frame.Goals as goal
 

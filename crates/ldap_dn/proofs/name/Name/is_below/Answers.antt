@@ -1,3 +1,4 @@
+-- What search doesn't prove of `is_below`: what it returns, by lemmas of `Fronts`.
 use Rattle.ldap_dn.proofs.Fronts.{below_answer}
 use Rattle.ldap_dn.proofs.name.Name.is_below.Goals as goal
 

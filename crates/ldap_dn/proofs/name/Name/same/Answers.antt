@@ -1,3 +1,4 @@
+-- What search doesn't prove of `same`: what it returns, by lemmas of `Fronts`.
 use Rattle.ldap_dn.proofs.Fronts.{same_answer}
 use Rattle.ldap_dn.proofs.name.Name.same.Goals as goal
 

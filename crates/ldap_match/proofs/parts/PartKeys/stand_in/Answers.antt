@@ -1,3 +1,4 @@
+-- What search doesn't prove of `stand_in`: what it returns, by lemmas of `Decided`.
 use Rattle.std.proofs.Common.{option_copied}
 use Rattle.ldap_match.proofs.Decided.{standing}
 use Rattle.ldap_match.proofs.parts.PartKeys.stand_in.Goals as goal

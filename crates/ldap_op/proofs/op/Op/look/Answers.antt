@@ -1,3 +1,4 @@
+-- What search doesn't prove of `look`: what it returns, step by step.
 use Rattle.ldap_op.proofs.op.Op.look.Goals as goal
 
 pub returns-in-Ok : goal.returns-in-Ok

@@ -1,3 +1,4 @@
+-- What search doesn't prove of `of_classes`: what it returns, by lemmas of `Indexed`.
 use Rattle.std.proofs.Math.ListN.{drop_of_length-le}
 use Rattle.std.specs.Str.{bytes_eq}
 use Rattle.ldap_schema.specs.private.NameOrder.{has_name}

@@ -1,3 +1,4 @@
+-- What search doesn't prove of `add`: the invariant and the clause `ok`, by lemmas of `Sought`.
 use Rattle.std.proofs.Common.{ℕ, List, rules, ap, sym, subst, ◌∙◌}
 use Rattle.std.proofs.lemmas.Fn.{always_returns_same}
 use Rattle.std.specs.Str.{bytes_eq}

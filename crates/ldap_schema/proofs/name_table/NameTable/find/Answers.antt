@@ -1,3 +1,4 @@
+-- What search doesn't prove of `find`: what it returns, by lemmas of `Sought`.
 use Rattle.std.proofs.Common.{ℕ, List, Some, rules, ap, sym, ◌∙◌}
 use Rattle.std.proofs.lemmas.Fn.{always_returns_same}
 use Rattle.ldap_schema.specs.private.NameOrder.{order, number_at}

@@ -1,3 +1,4 @@
+-- What search doesn't prove of `find_folded`: what it returns, by lemmas of `Sought`.
 use Rattle.std.proofs.Common.{ℕ, List, Some, rules, ap, sym, ◌∙◌, map}
 use Rattle.std.proofs.lemmas.Fn.{always_returns_same}
 use Rattle.std.specs.Char.{to_ascii_lowercase}

@@ -1,3 +1,4 @@
+-- What search doesn't prove of `are_in_line`: what it returns, step by step.
 use Rattle.std.proofs.Common.{List, ap, ◌∙◌}
 use Rattle.std.proofs.lemmas.Result.{IfOk-weaker}
 use Rattle.ldap_schema.specs.Schema.{SchemaModel, ClassModel}

@@ -1,3 +1,4 @@
+-- What search doesn't prove of `class_name`: the clause `found`, by lemmas of `Called`.
 use Rattle.std.proofs.Common.{ap, sym, ◌∙◌}
 use Rattle.std.specs.Option.{option_copied}
 use Rattle.ldap_schema.proofs.Called.{class_found}

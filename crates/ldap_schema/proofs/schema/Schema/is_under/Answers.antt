@@ -1,3 +1,4 @@
+-- What search doesn't prove of `is_under`: the clause `chain` and the clause `table`, by lemmas of `Chains`.
 use Rattle.std.proofs.Common.{List, ap, sym, ◌∙◌, ◌≡◌, true, subst, length}
 use Rattle.std.specs.List.{list_any}
 use Rattle.std.specs.Prelude.{nat_eq}

@@ -1,3 +1,4 @@
+-- What search doesn't prove of `subclass_law`: what it returns, by lemmas of `Lineage`.
 use Rattle.std.proofs.Common.{◌≡◌, refl, subst}
 use Rattle.ldap_schema.specs.Schema.{SchemaModel}
 use Rattle.ldap_schema.specs.Superclasses.{AreSuperclassesKnown}

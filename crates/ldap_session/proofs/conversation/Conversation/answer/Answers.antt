@@ -1,3 +1,4 @@
+-- What search doesn't prove of `answer`: the clause `continues`, by lemmas of `Conversed`.
 use Rattle.session_handler.specs.View.{config_view}
 use Rattle.ldap_session.specs.View.{conversation_view}
 use Rattle.ldap_session.proofs.Conversed.{continues}

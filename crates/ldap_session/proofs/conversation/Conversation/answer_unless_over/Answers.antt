@@ -1,3 +1,4 @@
+-- What search doesn't prove of `answer_unless_over`: the clause `step`, by lemmas of `Kept`.
 use Rattle.std.proofs.Common.{Option, Result, Ok, subst, ap, ◌∙◌}
 use Rattle.session_handler.specs.View.{config_view}
 use Rattle.session_handler.specs.declared.answered.Answered.{Answered}

@@ -1,3 +1,4 @@
+-- What search doesn't prove of `has_parts`: what it returns, by lemmas of `Search`.
 use Rattle.std.proofs.Common.{sym, ◌∙◌, option_copied}
 use Rattle.ldap_syntax.proofs.Search.{whole, no_back}
 use Rattle.ldap_syntax.proofs.key.Key.has_parts.Goals as goal

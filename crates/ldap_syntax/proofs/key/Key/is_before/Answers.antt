@@ -1,3 +1,4 @@
+-- What search doesn't prove of `is_before`: what it returns, step by step.
 use Rattle.std.proofs.Common.{ap₂, ◌∙◌, refl, arith}
 use Rattle.std.specs.Ordering.{nat_cmp, is_lt}
 use Rattle.std.proofs.lemmas.Cmp.{same_from_slice_cmp_tested}

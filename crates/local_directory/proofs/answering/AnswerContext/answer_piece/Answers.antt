@@ -1,3 +1,4 @@
+-- What search doesn't prove of `answer_piece`: the clause `ok` and the clause `err`, by lemmas of `Worked`.
 use Rattle.ldap_session.specs.session_handler.View.{config_view}
 use Rattle.ldap_session.specs.View.{session_view}
 use Rattle.local_directory.proofs.Worked.{fed_if, not_flushed_if, fed_failed, not_fed}

@@ -1,3 +1,5 @@
+-- What search doesn't prove of `answer_ready`: the clause `ok`, the clause `err` and `loop-answered-preserved`, by
+-- lemmas of `Worked` and `Progressed` (`ldap_session`).
 use Rattle.ldap_session.specs.session_handler.View.{config_view}
 use Rattle.ldap_session.specs.session_handler.declared.answered.Next.TheVariants.{GoesOn, Unbound, Disconnected}
 use Rattle.ldap_session.specs.View.{session_view}

@@ -1,3 +1,4 @@
+-- What search doesn't prove of `latest`: what it returns, by lemmas of `Clients`.
 use Rattle.std.proofs.Common.{sym, ap, ◌∙◌}
 use Rattle.std.specs.Option.{option_map}
 use Rattle.std.specs.FinMap as map

@@ -1,3 +1,4 @@
+-- What search doesn't prove of `replace`: what `unreachable` requires and what it returns, by lemmas of `Clients`.
 use Rattle.std.proofs.Common.{ap, ◌∙◌}
 use Rattle.std.specs.FinMap as map
 use Rattle.local_directory.specs.View.{kept_view}

@@ -1,3 +1,4 @@
+-- What search doesn't prove of `push`: the clause `ok` and the clause `too_long`, step by step.
 use Rattle.std.proofs.Common.{◌≡◌, ℕ, List, [], ◌∷◌, ◌++◌, OnOk, IsErrOf, subst}
 use Rattle.journal.specs.Frames.{recorded}
 use Rattle.log_journal.specs.Framed.{AreTooLong}

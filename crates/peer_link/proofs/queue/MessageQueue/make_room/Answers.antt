@@ -1,3 +1,4 @@
+-- What search doesn't prove of `make_room`: `loop-self-init` and `loop-self-preserved`, by lemmas of `Forgetting`.
 use Rattle.peer_link.proofs.Forgetting.{none_forgotten, one_more_forgotten}
 use Rattle.peer_link.proofs.queue.MessageQueue.make_room.Goals as goal
 

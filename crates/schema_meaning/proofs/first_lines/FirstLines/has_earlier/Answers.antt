@@ -1,3 +1,4 @@
+-- What search doesn't prove of `has_earlier`: what it returns, by lemmas of `Before`.
 use Rattle.std.proofs.Common.{◌||◌, ap, ◌∙◌}
 use Rattle.std.specs.List.{list_any}
 use Rattle.schema_text.specs.Texts.{SchemaTextModel}

@@ -1,3 +1,4 @@
+-- What search doesn't prove of `of`: the invariant, by lemmas of `Halved`.
 use Rattle.std.proofs.Common.{◌≡◌, rules, sym, subst}
 use Rattle.schema_meaning.specs.private.Octets.{IsInOrder}
 use Rattle.schema_meaning.proofs.Halved.{in_order_of_keys}

@@ -1,3 +1,5 @@
+-- What search doesn't prove of `has`: the invariant, the clause `found` and the clause `same`, by lemmas of `Rising`
+-- and `Forward`.
 use Rattle.std.proofs.Common.{◌∙◌, sym, ap, subst}
 use Rattle.std.specs.Prelude.{nat_le}
 use Rattle.dir_index.specs.Postings.{has_number, IsRising}

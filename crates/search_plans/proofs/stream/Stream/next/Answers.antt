@@ -1,3 +1,4 @@
+-- What search doesn't prove of `next`: the invariant and what it returns, by lemmas of `Together`.
 use Rattle.std.proofs.Common.{◌≡◌, ◌∷◌, [], List, ℕ, ◌∙◌, sym, ap}
 use Rattle.search_plans.specs.Streams.{together}
 use Rattle.search_plans.proofs.Together.{next_is, none_left, behind_all_rising}

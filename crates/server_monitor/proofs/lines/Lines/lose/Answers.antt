@@ -1,3 +1,4 @@
+-- What search doesn't prove of `lose`: the clause `dropped`, by lemmas of `Noting`.
 use Rattle.std.proofs.Common.{ap}
 use Rattle.server_monitor.proofs.Noting.{lost_one}
 use Rattle.server_monitor.proofs.lines.Lines.lose.Goals as goal

@@ -1,3 +1,4 @@
+-- What search doesn't prove of `say`: the clause `said`, by lemmas of `Noting`.
 use Rattle.server_monitor.proofs.Noting.{said_again, said_kept, said_dropped}
 use Rattle.server_monitor.proofs.lines.Lines.say.Goals as goal
 

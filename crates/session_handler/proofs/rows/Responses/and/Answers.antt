@@ -1,3 +1,4 @@
+-- What search doesn't prove of `and`: the invariant and what it returns, by lemmas of `Cutting`.
 use Rattle.std.proofs.Common.{List, ℕ, length, refl, ap, sym, ◌∙◌, ◌++◌, ◌∷◌, []}
 use Rattle.session_handler.specs.Rows.{cut, total}
 use Rattle.session_handler.proofs.Cutting.{cut_more, total_more}

@@ -1,3 +1,4 @@
+-- What search doesn't prove of `lengths`: what it returns, by lemmas of `Cutting`.
 use Rattle.std.proofs.Common.{length, map, sym, ap, ◌∙◌}
 use Rattle.session_handler.proofs.Cutting.{lengths_cut}
 use Rattle.session_handler.proofs.rows.Responses.lengths.Goals as goal

@@ -1,3 +1,4 @@
+-- What search doesn't prove of `octets`: what it returns, by lemmas of `Cutting`.
 use Rattle.std.proofs.Common.{sym, ap, ◌∙◌}
 use Rattle.session_handler.specs.Rows.{joined}
 use Rattle.session_handler.proofs.Cutting.{joined_cut}

@@ -1,3 +1,4 @@
+-- What search doesn't prove of `answer_and_tell`: the clause `answers`, step by step.
 use Rattle.std.proofs.Common.{sym, subst}
 use Rattle.client_link.specs.session_handler.View.{config_view}
 use Rattle.client_link.specs.ldap_session.View.{ConversationValue}

@@ -1,3 +1,4 @@
+-- What search doesn't prove of `answer_one`: the clause `answers`, by lemmas of `Attended`.
 use Rattle.client_link.specs.session_handler.View.{config_view}
 use Rattle.session_pool.proofs.Attended.{answers_under}
 use Rattle.session_pool.proofs.pool.SessionPool.answer_one.Goals as goal

@@ -1,3 +1,5 @@
+-- What search doesn't prove of `answer_some`: `loop-count-init`, `loop-count-preserved`, the clause `answers` and the
+-- clause `same`, by lemmas of `Attended`.
 use Rattle.std.proofs.Common.{refl, arith}
 use Rattle.client_link.specs.session_handler.View.{config_view}
 use Rattle.session_pool.proofs.Attended.{answers_none, answers_more, answers_up_to, some_under, on_false, on_true, same_then}

@@ -1,3 +1,5 @@
+-- What search doesn't prove of `attend`: `loop-sitting-init` and `loop-sitting-preserved`, by lemmas of `Attended` and
+-- `Rows`.
 use Rattle.client_link.specs.session_handler.View.{config_view}
 use Rattle.session_pool.proofs.Attended.{same_then}
 use Rattle.session_pool.proofs.Rows.{one_sitting, one_more_sitting}

@@ -1,3 +1,4 @@
+-- What search doesn't prove of `refuse_update`: the clause `refused`, by lemmas of `Attended`.
 use Rattle.client_link.specs.session_handler.View.{config_view}
 use Rattle.session_pool.specs.Refusing.{finds_out}
 use Rattle.session_pool.proofs.Attended.{answers_under}

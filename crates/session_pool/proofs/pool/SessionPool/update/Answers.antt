@@ -1,3 +1,4 @@
+-- What search doesn't prove of `update`: `loop-init` and `loop-preserved`, step by step.
 use Rattle.session_pool.specs.Sittings as sittings
 use Rattle.session_pool.proofs.pool.SessionPool.update.Goals as goal
 

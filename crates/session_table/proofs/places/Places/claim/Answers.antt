@@ -1,3 +1,5 @@
+-- What search doesn't prove of `claim`: what `index_mut` requires, the invariant and the clause `ok`, by lemmas of
+-- `Standing`.
 use Rattle.std.proofs.Common.{◌≡◌, refl, sym, ap, ◌∙◌, Some, slice_get, nat_lt, inr, arith, length, rules}
 use Rattle.std.proofs.lemmas.Option.{slice_get_within}
 use Rattle.session_table.specs.private.Stands.{places_in, times, is_free, is_ready, is_updates, is_waiting, is_in_queue, is_made, is_here, has_some}

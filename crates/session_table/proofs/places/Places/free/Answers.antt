@@ -1,3 +1,4 @@
+-- What search doesn't prove of `free`: what `push_reserved` requires and the invariant, by lemmas of `Standing`.
 use Rattle.std.proofs.Common.{◌≡◌, ℕ, List, refl, sym, subst, Some, slice_get, nat_lt, arith, length, rules}
 use Rattle.std.specs.Prelude.{slice_set}
 use Rattle.session_table.specs.private.Stands.{places_in, times, once, is_free, is_ready, is_updates, is_waiting, is_in_queue, is_made, is_here, has_some}

@@ -1,3 +1,4 @@
+-- What search doesn't prove of `leaving`: what `index` requires, by lemmas of `Standing`.
 use Rattle.std.proofs.Common.{◌≡◌, ℕ, refl, ap, sym, ◌∙◌, Some, slice_get, arith, length}
 use Rattle.session_turns.specs.Places.{IsIn}
 use Rattle.session_turns.specs.declared.spot.Queue.TheVariants.{Leaving}

@@ -1,3 +1,5 @@
+-- What search doesn't prove of `line_up`: what `line_up` requires, the invariant, what `index_mut` requires and what
+-- `push_back_reserved` requires, by lemmas of `Standing` and `Turned`.
 use Rattle.std.proofs.Common.{◌≡◌, ℕ, List, refl, sym, ap, ◌∙◌, subst, Some, slice_get, nat_lt, arith, length, rules}
 use Rattle.std.specs.Prelude.{slice_set}
 use Rattle.std.proofs.lemmas.Option.{slice_get_within}

@@ -1,3 +1,4 @@
+-- What search doesn't prove of `longest`: what `index` requires, by lemmas of `Standing`.
 use Rattle.std.proofs.Common.{◌≡◌, ℕ, refl, Some, slice_get, arith, length}
 use Rattle.session_table.specs.declared.place_state.PlaceState.TheVariants.{Waits}
 use Rattle.session_table.proofs.Standing.{below_made, waits_in_book}

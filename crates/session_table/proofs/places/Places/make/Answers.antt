@@ -1,3 +1,4 @@
+-- What search doesn't prove of `make`: the invariant and the clause `ok`, by lemmas of `Standing`.
 use Rattle.std.proofs.Common.{◌≡◌, ℕ, ◌<◌, List, [], ◌∷◌, ◌++◌, refl, sym, ap, ◌∙◌, subst, Some, None, slice_get, nat_lt, inl, arith, length, rules}
 use Rattle.std.specs.Prelude.{slice_set, Option}
 use Rattle.std.proofs.lemmas.Option.{slice_get_past}

@@ -1,3 +1,4 @@
+-- What search doesn't prove of `new`: the invariant, by lemmas of `Standing`.
 use Rattle.std.proofs.Common.{◌≡◌, ℕ, List, [], refl, sym, ap, ◌∙◌, Some, None, false, Bool, slice_get, arith, length, rules}
 use Rattle.std.specs.Prelude.{Option, replicate}
 use Rattle.session_turns.specs.Turning.{TurnsValue, nobody}

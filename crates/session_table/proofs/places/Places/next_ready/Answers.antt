@@ -1,3 +1,5 @@
+-- What search doesn't prove of `next_ready`: what `index_mut` requires, the invariant, the clause `some`, the clause
+-- `none` and the clause `left`, by lemmas of `Standing` and `Turned`.
 use Rattle.std.proofs.Common.{◌≡◌, ℕ, ◌+◌, refl, sym, ap, ◌∙◌, subst, Some, None, slice_get, nat_lt, cond, arith, length, rules}
 use Rattle.std.specs.Prelude.{slice_set, nat_eq, Option}
 use Rattle.std.proofs.lemmas.Option.{slice_get_within, get_or_from_slice_get}

@@ -1,3 +1,5 @@
+-- What search doesn't prove of `next_update`: what `index_mut` requires, the invariant, the clause `some`, the clause
+-- `none` and the clause `left`, by lemmas of `Standing`.
 use Rattle.std.proofs.Common.{◌≡◌, ℕ, List, ◌∷◌, refl, sym, ap, ◌∙◌, subst, Some, None, slice_get, nat_lt, arith, length, rules}
 use Rattle.std.specs.Prelude.{slice_set, Option}
 use Rattle.std.proofs.lemmas.Option.{slice_get_within, get_or_from_slice_get}

@@ -1,3 +1,5 @@
+-- What search doesn't prove of `oldest_update`: what `index` requires, the clause `some` and the clause `none`, by
+-- lemmas of `Oldest` and `Standing`.
 use Rattle.std.proofs.Common.{◌≡◌, ℕ, refl, ◌∙◌, Some, slice_get, arith, length}
 use Rattle.std.proofs.lemmas.Option.{get_or_from_slice_get}
 use Rattle.session_table.specs.Tabling.{tabled, WaitsFirst}

@@ -1,3 +1,4 @@
+-- What search doesn't prove of `overdue`: the clause `none`, step by step.
 use Rattle.std.proofs.Common.{◌≡◌, true, inr}
 use Rattle.session_table.proofs.places.Places.overdue.Goals as goal
 

@@ -1,3 +1,4 @@
+-- What search doesn't prove of `park`: the invariant and the clause `ok`, by lemmas of `Standing`.
 use Rattle.std.proofs.Common.{◌≡◌, ℕ, List, refl, sym, ap, ◌∙◌, subst, Some, slice_get, nat_lt, arith, length, rules}
 use Rattle.std.specs.Prelude.{slice_set}
 use Rattle.std.proofs.lemmas.Option.{slice_get_within}

@@ -1,3 +1,5 @@
+-- What search doesn't prove of `rouse`: the invariant, the clause `none`, the clause `left`, what `index_mut` requires
+-- and others, by lemmas of `Lined`, `Turned` and `Standing`.
 use Rattle.std.proofs.Common.{◌≡◌, ℕ, List, refl, sym, ap, ◌∙◌, subst, Some, slice_get, nat_lt, arith, length, rules}
 use Rattle.std.specs.Prelude.{slice_set, Option}
 use Rattle.std.proofs.lemmas.Option.{slice_get_within, get_or_from_slice_get}

@@ -1,3 +1,4 @@
+-- What search doesn't prove of `time_left`: what it returns, step by step.
 use Rattle.std.proofs.Common.{ℕ, ◌-◌, ap, ◌∙◌, inr}
 use Rattle.std.specs.Duration.{as_nanos}
 use Rattle.session_table.proofs.places.Places.time_left.Goals as goal

@@ -1,3 +1,4 @@
+-- What search doesn't prove of `is_late`: what it returns, by lemmas of `Posted`.
 use Rattle.session_table.proofs.Posted.{is_late_since}
 use Rattle.session_table.proofs.pooled.PooledSession.is_late.Goals as goal
 

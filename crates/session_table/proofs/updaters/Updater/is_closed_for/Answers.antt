@@ -1,3 +1,4 @@
+-- What search doesn't prove of `is_closed_for`: what it returns, by lemmas of `Posted`.
 use Rattle.session_table.proofs.Posted.{is_closed_since}
 use Rattle.session_table.proofs.updaters.Updater.is_closed_for.Goals as goal
 

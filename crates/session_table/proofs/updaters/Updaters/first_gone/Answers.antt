@@ -1,3 +1,4 @@
+-- What search doesn't prove of `first_gone`: the clause `none`, by lemmas of `Posted`.
 use Rattle.std.proofs.Common.{arith}
 use Rattle.session_table.specs.Posting.{posted}
 use Rattle.session_table.proofs.Posted.{gone_within}

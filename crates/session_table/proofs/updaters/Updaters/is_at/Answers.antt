@@ -1,3 +1,4 @@
+-- What search doesn't prove of `is_at`: what it returns, by lemmas of `Posted`.
 use Rattle.session_table.specs.Posting.{posted}
 use Rattle.session_table.proofs.Posted.{is_of}
 use Rattle.session_table.proofs.updaters.Updaters.is_at.Goals as goal

@@ -1,3 +1,4 @@
+-- What search doesn't prove of `is_gone`: what it returns, by lemmas of `Posted`.
 use Rattle.session_table.specs.Posting.{posted}
 use Rattle.session_table.proofs.Posted.{is_gone_there}
 use Rattle.session_table.proofs.updaters.Updaters.is_gone.Goals as goal

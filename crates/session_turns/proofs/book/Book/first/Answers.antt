@@ -1,3 +1,4 @@
+-- What search doesn't prove of `first`: the clause `some` and the clause `none`, by lemmas of `Standing`.
 use Rattle.session_turns.specs.private.Listed.{place_at}
 use Rattle.session_turns.proofs.Standing.{longest, none_in}
 use Rattle.session_turns.proofs.book.Book.first.Goals as goal

@@ -1,3 +1,5 @@
+-- What search doesn't prove of `put`: the invariant, what `index_mut` requires and the clause `ok`, by lemmas of
+-- `Standing`.
 use Rattle.std.proofs.Common.{rules}
 use Rattle.std.proofs.lemmas.Option.{slice_get_within}
 use Rattle.session_turns.specs.private.Listed.{place_at}

@@ -1,3 +1,4 @@
+-- What search doesn't prove of `take`: the invariant, by lemmas of `Standing`.
 use Rattle.session_turns.specs.private.Listed.{place_at}
 use Rattle.session_turns.proofs.Standing.{all_taken}
 use Rattle.session_turns.proofs.book.Book.take.Goals as goal

@@ -1,3 +1,4 @@
+-- What search doesn't prove of `take_next`: the invariant and the clause `none`, by lemmas of `Taken`.
 use Rattle.std.proofs.Common.{◌≡◌, ◌≤◌, false, cond, nat_le, sym, ◌∙◌, arith}
 use Rattle.session_turns.specs.Turning.{is_class, oldest, least}
 use Rattle.session_turns.specs.Queued.{queued}

@@ -1,3 +1,4 @@
+-- What search doesn't prove of `new`: the invariant, step by step.
 use Rattle.std.proofs.Common.{[]}
 use Rattle.shared_map.proofs.cursor.Cursor.new.Goals as goal
 

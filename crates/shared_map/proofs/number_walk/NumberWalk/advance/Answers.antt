@@ -1,3 +1,4 @@
+-- What search doesn't prove of `advance`: the invariant and what it returns, by lemmas of `Ahead`.
 use Rattle.std.proofs.Common.{sym, ap, ◌∙◌}
 use Rattle.std.specs.Prelude.{slice_get}
 use Rattle.shared_map.proofs.Ahead.{run_is, step_amid, step_value}

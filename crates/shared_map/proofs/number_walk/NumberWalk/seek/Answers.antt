@@ -1,3 +1,4 @@
+-- What search doesn't prove of `seek`: what it returns, by lemmas of `Ahead`.
 use Rattle.shared_map.proofs.Ahead.{at_least}
 use Rattle.shared_map.proofs.number_walk.NumberWalk.seek.Goals as goal
 

@@ -1,3 +1,4 @@
+-- What search doesn't prove of `seek_above`: what it returns, by lemmas of `Ahead`.
 use Rattle.std.proofs.Common.{◌∙◌}
 use Rattle.shared_map.proofs.Ahead.{above_least}
 use Rattle.shared_map.proofs.number_walk.NumberWalk.seek_above.Goals as goal

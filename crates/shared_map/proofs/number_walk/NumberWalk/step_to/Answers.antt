@@ -1,3 +1,4 @@
+-- What search doesn't prove of `step_to`: what it returns, by lemmas of `Ahead`.
 use Rattle.std.proofs.Common.{◌∙◌}
 use Rattle.shared_map.proofs.Ahead.{at_least}
 use Rattle.shared_map.proofs.number_walk.NumberWalk.step_to.Goals as goal

@@ -1,3 +1,4 @@
+-- What search doesn't prove of `head`: what it returns, by lemmas of `Keys`.
 use Rattle.std.proofs.Common.{sym, subst, ap, ◌∙◌}
 use Rattle.shared_map.specs.Sets.{numbers_in}
 use Rattle.shared_map.specs.private.Ahead.{IsHead}

@@ -1,3 +1,4 @@
+-- What search doesn't prove of `head_after`: what it returns, by lemmas of `Keys`.
 use Rattle.std.proofs.Common.{sym, subst, ap, ◌∙◌, nat_lt}
 use Rattle.std.specs.Prelude.{filter}
 use Rattle.shared_map.specs.Sets.{numbers_in}

@@ -1,3 +1,4 @@
+-- What search doesn't prove of `rises`: what it returns, by lemmas of `Ahead`.
 use Rattle.std.proofs.Common.{sym, subst, ap, ◌∙◌}
 use Rattle.shared_map.specs.Sets.{numbers_in, IsRising}
 use Rattle.shared_map.proofs.Ahead.{keys_rise}

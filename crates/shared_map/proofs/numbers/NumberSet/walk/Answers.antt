@@ -1,3 +1,4 @@
+-- What search doesn't prove of `walk`: the invariant and what it returns, by lemmas of `Ahead`.
 use Rattle.shared_map.proofs.Ahead.{amid, head_whole}
 use Rattle.shared_map.proofs.numbers.NumberSet.walk.Goals as goal
 

@@ -1,3 +1,4 @@
+-- What search doesn't prove of `walk_after`: the invariant and what it returns, by lemmas of `Ahead`.
 use Rattle.shared_map.proofs.Ahead.{amid, head_after}
 use Rattle.shared_map.proofs.numbers.NumberSet.walk_after.Goals as goal
 

@@ -1,3 +1,5 @@
+-- What search doesn't prove of `has_number`: what `is_full` requires, what it returns, `loop-at-smaller-then-number-k`,
+-- `loop-at-preserved-then-number-k` and others, by lemmas of `Dense`.
 use Rattle.std.proofs.Common.{Some, sym, subst, ap, ◌∙◌, arith}
 use Rattle.std.specs.Ordering.{nat_cmp}
 use Rattle.shared_map.specs.Entries.{IsTree, Rises, entries_and_height}

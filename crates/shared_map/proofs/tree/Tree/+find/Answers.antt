@@ -1,3 +1,4 @@
+-- What search doesn't prove of `+find`: what it returns, by lemmas of `Order`.
 use Rattle.std.proofs.Common.{sym, subst, ap, ◌∙◌}
 use Rattle.std.specs.Ordering.{is_lt}
 use Rattle.std.specs.Map.{lookup}

@@ -1,3 +1,4 @@
+-- What search doesn't prove of `+leaf_at`: the clause `value` and what it returns, by lemmas of `Order` and `Parts`.
 use Rattle.std.proofs.Common.{◌≡◌, sym, subst, ap, ◌∙◌}
 use Rattle.std.specs.Ordering.{is_lt}
 use Rattle.std.specs.Map.{lookup}

@@ -1,3 +1,4 @@
+-- What search doesn't prove of `load`: what it returns, step by step.
 use Rattle.std.proofs.Common.{◌≡◌, Some, rules, ap, subst, ◌∙◌}
 use Rattle.view_store.specs.Slots.{held, finding, found, own}
 use Rattle.view_store.proofs.store.ViewStore.load.Goals as goal
