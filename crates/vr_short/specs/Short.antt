@@ -1,21 +1,13 @@
 -- Messages without the first records of their logs.
-use Rattle.std.specs.Prelude.{ℕ, min, nat_le, Bool, true, false, cond, not, ◌&&◌, ◌||◌, List, ◌++◌, length, take, drop, Option, Some, None}
+use Rattle.std.specs.Prelude.{ℕ, min, nat_le, Bool, cond, not, ◌&&◌, ◌||◌, List, ◌++◌, length, take, drop, Option, Some, None, is_some}
 use Rattle.vr_state.specs.Words.{LogEntry}
+use Rattle.vr_state.specs.Carried.{carried_log, with_log}
 use Rattle.vr_state.specs.declared.message.PeerMessage.{PeerMessage}
-use Rattle.vr_state.specs.declared.message.PeerMessage.TheVariants.{DoViewChange, StartView}
 use Rattle.vr_world.specs.Beginnings.{log_in, committed_in}
-
--- The message with this log in the place of its own; one without a log stays.
-abbrev pub with_log : {P : Type 0} → List (LogEntry P) → PeerMessage P → PeerMessage P
-with_log l (DoViewChange v c) = DoViewChange v (record c { log = l })
-with_log l (StartView v held) = StartView v (record held { log = l })
-with_log l m = m
 
 -- It has a log of which records may be left out.
 abbrev pub has_log : {P : Type 0} → PeerMessage P → Bool
-has_log (DoViewChange v c) = true
-has_log (StartView v held) = true
-has_log _ = false
+has_log m = is_some (carried_log m)
 
 -- How many records are left out of a message to a replica that has said that it has committed k: no more than the
 -- sender has committed, and than there are.

@@ -4,7 +4,7 @@ ghost use Rattle.vr_short.specs.Short.{has_first, taken_as};
 
 use std::alloc::{AllocError, Global};
 use vr_state::log::Log;
-use vr_state::message::{Change, PeerMessage, Snapshot};
+use vr_state::message::PeerMessage;
 use vr_state::payload::Payload;
 use vr_state::words::LogEntry;
 
@@ -43,44 +43,6 @@ fn joined<P: Payload>(
     Ok(log)
 }
 
-/// What a DOVIEWCHANGE tells, with these records before its own.
-fn full_change<P: Payload>(
-    alloc: Global,
-    own: &[LogEntry<P>],
-    base: u64,
-    change: Change<P>,
-) -> Result<Change<P>, AllocError>
-    requires { base ≤ length own.now }
-    ensures { IfOk result (λ full. full ≡ record change { log = take base own.now ++ change.log }) }
-{
-    let Change {
-        log,
-        last_normal_view,
-        commit_number,
-    } = change;
-    let log = joined(alloc, own, base, log)?;
-    Ok(Change {
-        log,
-        last_normal_view,
-        commit_number,
-    })
-}
-
-/// What a STARTVIEW tells, with these records before its own.
-fn full_snapshot<P: Payload>(
-    alloc: Global,
-    own: &[LogEntry<P>],
-    base: u64,
-    held: Snapshot<P>,
-) -> Result<Snapshot<P>, AllocError>
-    requires { base ≤ length own.now }
-    ensures { IfOk result (λ full. full ≡ record held { log = take base own.now ++ held.log }) }
-{
-    let Snapshot { log, commit_number } = held;
-    let log = joined(alloc, own, base, log)?;
-    Ok(Snapshot { log, commit_number })
-}
-
 /// What a replica with this log, of which it has committed so much, makes of a message that leaves out the first `base`
 /// records of its log: the whole message, or nothing where it lacks some of these. Its only error is want of memory.
 pub fn fill<P: Payload>(
@@ -88,32 +50,17 @@ pub fn fill<P: Payload>(
     own: &[LogEntry<P>],
     committed: u64,
     base: u64,
-    message: PeerMessage<P>,
+    mut message: PeerMessage<P>,
 ) -> Result<Option<PeerMessage<P>>, AllocError>
     ensures { IfOk result (λ taken. taken ≡ taken_as base committed own.now message) }
 {
-    let is_there = has_first(base, committed, own);
-    match message {
-        PeerMessage::DoViewChange {
-            view_number,
-            change,
-        } => {
-            if !is_there {
-                return Ok(None);
-            }
-            let change = full_change(alloc, own, base, change)?;
-            Ok(Some(PeerMessage::DoViewChange {
-                view_number,
-                change,
-            }))
-        }
-        PeerMessage::StartView { view_number, held } => {
-            if !is_there {
-                return Ok(None);
-            }
-            let held = full_snapshot(alloc, own, base, held)?;
-            Ok(Some(PeerMessage::StartView { view_number, held }))
-        }
-        other => Ok(Some(other)),
+    let Some(tail) = message.replace_log(Log::new(alloc)) else {
+        return Ok(Some(message));
+    };
+    if !has_first(base, committed, own) {
+        return Ok(None);
     }
+    let log = joined(alloc, own, base, tail)?;
+    message.replace_log(log);
+    Ok(Some(message))
 }

@@ -1,10 +1,11 @@
 //! A message without the first records of its log.
-ghost use Rattle.std.specs.Prelude.{◌≡◌, ◌≤◌, min, length, drop, IfOk};
+ghost use Rattle.std.specs.Prelude.{◌≡◌, ◌≤◌, min, length, IfOk};
+ghost use Rattle.vr_world.specs.Beginnings.{log_in};
 ghost use Rattle.vr_short.specs.Short.{left_out, shortened};
 
 use std::alloc::{AllocError, Global};
 use vr_state::log::Log;
-use vr_state::message::{Change, PeerMessage, Snapshot};
+use vr_state::message::PeerMessage;
 use vr_state::payload::Payload;
 
 /// How many records of a log are left out.
@@ -14,54 +15,33 @@ fn most_of<P: Payload>(most: u64, commit_number: u64, log: &Log<P>) -> u64
     most.min(commit_number.min(log.len() as u64))
 }
 
-/// A log without its first records; it copies pointers to the payloads of the others.
-fn behind<P: Payload>(alloc: Global, log: Log<P>, base: u64) -> Result<Log<P>, AllocError>
-    requires { base ≤ length log }
-    ensures { IfOk result (λ behind. behind ≡ drop base log) }
+/// How many records are left out of a message.
+fn left_out<P: Payload>(most: u64, message: &PeerMessage<P>) -> u64
+    ensures { result ≡ left_out most message.now }
 {
-    if base == 0 {
-        return Ok(log);
+    match message {
+        PeerMessage::DoViewChange { change, .. } => {
+            most_of(most, change.commit_number, &change.log)
+        }
+        PeerMessage::StartView { held, .. } => most_of(most, held.commit_number, &held.log),
+        _ => 0,
     }
-    log.copy_after(alloc, base as usize)
 }
 
-/// A DOVIEWCHANGE's log and numbers without as many records.
-fn short_change<P: Payload>(
+/// A message without the first records of its log; it copies pointers to the payloads of the others.
+fn without_first<P: Payload>(
     alloc: Global,
-    change: Change<P>,
-    most: u64,
-) -> Result<(u64, Change<P>), AllocError>
-    ensures { IfOk result (λ r. let x = min most (min change.commit_number (length change.log)) in r ≡
-        (x, record change { log = drop x change.log })) }
+    mut message: PeerMessage<P>,
+    base: u64,
+) -> Result<PeerMessage<P>, AllocError>
+    requires { base ≤ length (log_in message) }
+    ensures { IfOk result (λ short. short ≡ shortened base message) }
 {
-    let Change {
-        log,
-        last_normal_view,
-        commit_number,
-    } = change;
-    let base = most_of(most, commit_number, &log);
-    let log = behind(alloc, log, base)?;
-    let short = Change {
-        log,
-        last_normal_view,
-        commit_number,
-    };
-    Ok((base, short))
-}
-
-/// A STARTVIEW's log and number without as many records.
-fn short_snapshot<P: Payload>(
-    alloc: Global,
-    held: Snapshot<P>,
-    most: u64,
-) -> Result<(u64, Snapshot<P>), AllocError>
-    ensures { IfOk result (λ r. let x = min most (min held.commit_number (length held.log)) in r ≡
-        (x, record held { log = drop x held.log })) }
-{
-    let Snapshot { log, commit_number } = held;
-    let base = most_of(most, commit_number, &log);
-    let log = behind(alloc, log, base)?;
-    Ok((base, Snapshot { log, commit_number }))
+    if let Some(log) = message.replace_log(Log::new(alloc)) {
+        let behind = log.copy_after(alloc, base as usize)?;
+        message.replace_log(behind);
+    }
+    Ok(message)
 }
 
 /// How many records are left out of a message to a replica that has said that it has committed at least so many, and
@@ -73,22 +53,10 @@ pub fn shorten<P: Payload>(
 ) -> Result<(u64, PeerMessage<P>), AllocError>
     ensures { IfOk result (λ r. r ≡ (left_out most message, shortened (left_out most message) message)) }
 {
-    match message {
-        PeerMessage::DoViewChange {
-            view_number,
-            change,
-        } => {
-            let (base, change) = short_change(alloc, change, most)?;
-            let short = PeerMessage::DoViewChange {
-                view_number,
-                change,
-            };
-            Ok((base, short))
-        }
-        PeerMessage::StartView { view_number, held } => {
-            let (base, held) = short_snapshot(alloc, held, most)?;
-            Ok((base, PeerMessage::StartView { view_number, held }))
-        }
-        other => Ok((0, other)),
+    let base = left_out(most, &message);
+    if base == 0 {
+        return Ok((0, message));
     }
+    let short = without_first(alloc, message, base)?;
+    Ok((base, short))
 }

@@ -10,5 +10,6 @@ pub mod Recovery
 pub mod Step
 pub mod StepLaw
 pub mod Views
+pub mod Carried
 pub mod Journaled
 pub mod private
