@@ -10,10 +10,8 @@ use crate::requests::request_in;
 use crate::searches::search_in;
 use crate::token::{Token, token_of, words_of};
 use dir_lab::{LabEvent, Op, WorldEvent};
+use request_checks::GREATEST_NUMBER;
 use std::alloc::{AllocError, Global};
-
-/// The greatest number that a script can write: no log is as long.
-const ALL_COMMITTED: u64 = 9_223_372_036_854_775_807;
 
 /// How many replicas the first line names.
 pub fn read_first(alloc: Global, line: &[u8]) -> Result<u64, LineError>
@@ -124,7 +122,8 @@ fn events_of(alloc: Global, tokens: &[Token]) -> Result<Vec<LabEvent>, LineError
             replica: *replica,
             nonce: *nonce,
         }),
-        [Token::Resume, Token::Number { value }] => resume(*value, ALL_COMMITTED),
+        // All is committed: no log is as long.
+        [Token::Resume, Token::Number { value }] => resume(*value, GREATEST_NUMBER),
         [
             Token::Resume,
             Token::Number { value: replica },

@@ -17,4 +17,4 @@ mod weighing;
 pub use fault::FrameFault;
 pub use framer::Framer;
 pub use laws::{any_pieces, one_reading};
-pub use ldap_msg::{Message, ProtocolOp, Request};
+pub use ldap_msg::{Message, ProtocolOp, Request, RequestKind};

@@ -5,21 +5,28 @@ use Rattle.ldap_parts.specs.Grammar.{IsLdapResult, AreControls}
 use Rattle.ldap_requests.specs.Grammar.{IsBindRequest, IsUnbindRequest, IsSearchRequest, IsCompareRequest, IsAbandonRequest, IsExtendedRequest}
 use Rattle.ldap_parts.specs.UpdateGrammar.{IsModifyRequest, IsAddRequest, IsDelRequest, IsModifyDnRequest}
 use Rattle.ldap_parts.specs.ResponseGrammar.{IsSearchResultEntry, IsExtendedResponse}
+use Rattle.ldap_msg.specs.Kinds.{request_kind}
+use Rattle.ldap_msg.specs.declared.kinds.RequestKind.{RequestKind}
+use Rattle.ldap_msg.specs.declared.kinds.RequestKind.TheVariants.{Bind, Unbind, Search, Modify, Add, Delete, ModifyDn, Compare, Abandon, Extended}
 use Rattle.ldap_msg.specs.Messages.{bind, unbind, search, modify, add, delete, modify_dn, compare, abandon, extended_request, RequestValue, bind_response, search_entry, search_done, modify_response, add_response, delete_response, modify_dn_response, compare_response, extended, ResponseValue, OperationValue, request, response, MessageValue}
 
--- the first octet of a request: its application tag, constructed but for a NULL, a text or an integer (RFC 4511 4.2 to
--- 4.12)
+-- the first octet of a request of this kind: its application tag, constructed but for a NULL, a text or an integer (RFC
+-- 4511 4.2 to 4.12)
+abbrev pub first_octet : RequestKind → ℕ
+first_octet Bind = 96
+first_octet Unbind = 66
+first_octet Search = 99
+first_octet Modify = 102
+first_octet Add = 104
+first_octet Delete = 74
+first_octet ModifyDn = 108
+first_octet Compare = 110
+first_octet Abandon = 80
+first_octet Extended = 119
+
+-- the first octet of a request
 abbrev pub request_octet : RequestValue → ℕ
-request_octet (bind x) = 96
-request_octet unbind = 66
-request_octet (search x) = 99
-request_octet (modify x) = 102
-request_octet (add x) = 104
-request_octet (delete x) = 74
-request_octet (modify_dn x) = 108
-request_octet (compare x) = 110
-request_octet (abandon x) = 80
-request_octet (extended_request x) = 119
+request_octet r = first_octet (request_kind r)
 
 -- the content of a request
 abbrev pub IsRequestContent : RequestValue → List ℕ → Type 0

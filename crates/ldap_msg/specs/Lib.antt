@@ -1,4 +1,5 @@
 pub mod Messages
+pub mod Kinds
 pub mod View
 pub mod Grammar
 pub mod Written

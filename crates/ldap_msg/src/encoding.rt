@@ -20,7 +20,7 @@ use ldap_parts::{
 use ldap_requests::{WriteError, put_number};
 use std::alloc::Global;
 
-/// The greatest length that a message's content may have.
+/// The greatest length that a message's content may have: four octets say no greater one, and `write_head` writes none.
 const MAX_CONTENT: usize = 0xffff_ffff;
 
 /// The content of an operation's element.

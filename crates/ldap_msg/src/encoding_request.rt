@@ -5,6 +5,7 @@ ghost use Rattle.ldap_msg.specs.View.{request_view};
 ghost use Rattle.ldap_msg.specs.Grammar.{request_octet};
 ghost use Rattle.ldap_msg.specs.Written.{request_content};
 
+use crate::kinds::RequestKind;
 use crate::message::Request;
 use ldap_parts::{add_content, delete_content, modify_content, modify_dn_content};
 use ldap_requests::{
@@ -38,16 +39,16 @@ pub fn request_octet(request: &Request) -> u8
     ensures octet { result ≡ request_octet (request_view request.now) }
     ensures low_tag { result % 32 < 31 }
 {
-    match request {
-        Request::Bind(_) => 0x60,
-        Request::Unbind => 0x42,
-        Request::Search(_) => 0x63,
-        Request::Modify(_) => 0x66,
-        Request::Add(_) => 0x68,
-        Request::Delete(_) => 0x4a,
-        Request::ModifyDn(_) => 0x6c,
-        Request::Compare(_) => 0x6e,
-        Request::Abandon(_) => 0x50,
-        Request::Extended(_) => 0x77,
+    match request.kind() {
+        RequestKind::Bind => 0x60,
+        RequestKind::Unbind => 0x42,
+        RequestKind::Search => 0x63,
+        RequestKind::Modify => 0x66,
+        RequestKind::Add => 0x68,
+        RequestKind::Delete => 0x4a,
+        RequestKind::ModifyDn => 0x6c,
+        RequestKind::Compare => 0x6e,
+        RequestKind::Abandon => 0x50,
+        RequestKind::Extended => 0x77,
     }
 }

@@ -1,6 +1,9 @@
 -- Which messages may have to wait for others. The messages that are to be answered come in; what stands next comes out.
 use Rattle.std.specs.Prelude.{ℕ, List, [], ◌∷◌, Bool, true, false, Option, Some, None, cond}
-use Rattle.session_handler.specs.ldap_msg.Messages.{MessageValue, OperationValue, request, response, RequestValue, bind, unbind, search, modify, add, delete, modify_dn, compare, abandon, extended_request}
+use Rattle.session_handler.specs.ldap_msg.Messages.{MessageValue, OperationValue, request, response, RequestValue, bind}
+use Rattle.session_handler.specs.ldap_msg.Kinds.{request_kind}
+use Rattle.session_handler.specs.ldap_msg.declared.kinds.RequestKind.{RequestKind}
+use Rattle.session_handler.specs.ldap_msg.declared.kinds.RequestKind.TheVariants.{Search}
 use Rattle.session_handler.specs.ldap_ber.declared.message_fault.MsgFault.{MsgFault}
 use Rattle.session_handler.specs.Waiting.{may_update}
 use Rattle.session_handler.specs.declared.state.State.{State}
@@ -28,28 +31,16 @@ due None s = due_of s.state s.framed.ready s.framed.fault
 -- the name in a bind, which is empty for nobody (RFC 4511 4.2); none, in any other request
 abbrev pub bind_name : RequestValue → Option (List ℕ)
 bind_name (bind b) = Some b.name
-bind_name unbind = None
-bind_name (search q) = None
-bind_name (modify m) = None
-bind_name (add a) = None
-bind_name (delete name) = None
-bind_name (modify_dn m) = None
-bind_name (compare c) = None
-bind_name (abandon id) = None
-bind_name (extended_request x) = None
+bind_name other = None
+
+-- whether requests of this kind are searches
+abbrev pub is_search_kind : RequestKind → Bool
+is_search_kind Search = true
+is_search_kind other = false
 
 -- whether a request is a search (RFC 4511 4.5)
 abbrev pub is_search : RequestValue → Bool
-is_search (search q) = true
-is_search (bind b) = false
-is_search unbind = false
-is_search (modify m) = false
-is_search (add a) = false
-is_search (delete name) = false
-is_search (modify_dn m) = false
-is_search (compare c) = false
-is_search (abandon id) = false
-is_search (extended_request x) = false
+is_search r = is_search_kind (request_kind r)
 
 -- whether an operation is one
 abbrev pub is_search_in : OperationValue → Bool

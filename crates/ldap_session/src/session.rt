@@ -14,7 +14,7 @@ ghost use Rattle.session_handler.specs.ldap_msg.View.{view};
 
 use crate::due::Due;
 use crate::end::SessionEnd;
-use ldap_framer::{FrameFault, Framer, Message, ProtocolOp, Request};
+use ldap_framer::{FrameFault, Framer, Message, ProtocolOp, Request, RequestKind};
 use session_handler::{
     AnswerError, Answered, Config, Directory, State, disconnect, may_update, take,
 };
@@ -25,19 +25,8 @@ fn bind_name(message: &Message) -> Option<&str>
     ensures { option_map (λ name. name.now) result ≡ bind_name_in (view message.now).op }
 {
     match &message.op {
-        ProtocolOp::Request(request) => match request {
-            Request::Bind(bind) => Some(bind.name.as_str()),
-            Request::Add(_)
-            | Request::Modify(_)
-            | Request::Delete(_)
-            | Request::ModifyDn(_)
-            | Request::Extended(_)
-            | Request::Unbind
-            | Request::Search(_)
-            | Request::Compare(_)
-            | Request::Abandon(_) => None,
-        },
-        ProtocolOp::Response(_) => None,
+        ProtocolOp::Request(Request::Bind(bind)) => Some(bind.name.as_str()),
+        ProtocolOp::Request(_) | ProtocolOp::Response(_) => None,
     }
 }
 
@@ -46,18 +35,7 @@ fn is_search(message: &Message) -> bool
     ensures { result ≡ is_search_in (view message.now).op }
 {
     match &message.op {
-        ProtocolOp::Request(request) => match request {
-            Request::Search(_) => true,
-            Request::Bind(_)
-            | Request::Add(_)
-            | Request::Modify(_)
-            | Request::Delete(_)
-            | Request::ModifyDn(_)
-            | Request::Extended(_)
-            | Request::Unbind
-            | Request::Compare(_)
-            | Request::Abandon(_) => false,
-        },
+        ProtocolOp::Request(request) => matches!(request.kind(), RequestKind::Search),
         ProtocolOp::Response(_) => false,
     }
 }

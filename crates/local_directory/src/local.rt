@@ -17,7 +17,7 @@ use dir_store::Store;
 use std::alloc::Global;
 use std::marker::Model;
 
-/// The greatest number that an update may have.
+/// The greatest number that an update may have: a control names no greater one.
 const LAST_NUMBER: u64 = 9223372036854775807;
 
 /// One directory in memory that sessions read and update.

@@ -1,6 +1,9 @@
 -- Requests by what they ask for: RFC 4511 4.2 to 4.12.
-use Rattle.std.specs.Prelude.{ℕ, List, Bool, cond, codes, Option, None, Some}
+use Rattle.std.specs.Prelude.{ℕ, List, Bool, true, false, cond, codes, Option, None, Some, is_some}
 use Rattle.std.specs.Str.{bytes_eq}
+use Rattle.ldap_msg.specs.Kinds.{request_kind}
+use Rattle.ldap_msg.specs.declared.kinds.RequestKind.{RequestKind}
+use Rattle.ldap_msg.specs.declared.kinds.RequestKind.TheVariants as request
 use Rattle.ldap_msg.specs.Messages.{ExtendedRequestValue, LdapResultValue, RequestValue, bind, unbind, search, modify, add, delete, modify_dn, compare, abandon, extended_request, ResponseValue, bind_response, search_done, modify_response, add_response, delete_response, modify_dn_response, compare_response, extended}
 use Rattle.ldap_op.specs.Values.{OpValue}
 use Rattle.ldap_op.specs.Values as op
@@ -30,31 +33,30 @@ update_of (compare c) = None
 update_of (abandon id) = None
 update_of (extended_request x) = cond (is_noop x) (Some op.noop) None
 
+-- whether a request of this kind reads
+abbrev pub is_read : RequestKind → Bool
+is_read request.Search = true
+is_read request.Compare = true
+is_read other = false
+
 -- the kind of a request to its controls
 abbrev pub kind_of : RequestValue → Kind
-kind_of (bind b) = Other
-kind_of unbind = Other
-kind_of (search q) = Read
-kind_of (modify m) = Update
-kind_of (add a) = Update
-kind_of (delete name) = Update
-kind_of (modify_dn m) = Update
-kind_of (compare c) = Read
-kind_of (abandon id) = Other
-kind_of (extended_request x) = cond (is_noop x) Update Other
+kind_of r = cond (is_some (update_of r)) Update (cond (is_read (request_kind r)) Read Other)
 
--- the kind of the response that answers a request; an unbind and an abandon are never answered
+-- the kind of the response that answers a request of this kind; an unbind and an abandon are never answered
+abbrev pub answering_for : RequestKind → Answering
+answering_for request.Bind = Bind
+answering_for request.Search = Search
+answering_for request.Modify = Modify
+answering_for request.Add = Add
+answering_for request.Delete = Delete
+answering_for request.ModifyDn = ModifyDn
+answering_for request.Compare = Compare
+answering_for other = Extended
+
+-- the kind of the response that answers a request
 abbrev pub answering_of : RequestValue → Answering
-answering_of (bind b) = Bind
-answering_of unbind = Extended
-answering_of (search q) = Search
-answering_of (modify m) = Modify
-answering_of (add a) = Add
-answering_of (delete name) = Delete
-answering_of (modify_dn m) = ModifyDn
-answering_of (compare c) = Compare
-answering_of (abandon id) = Extended
-answering_of (extended_request x) = Extended
+answering_of r = answering_for (request_kind r)
 
 -- A result in a response of this kind; the value is an extended response's alone, which has no name (RFC 4511 4.2.2 to
 -- 4.12).

@@ -23,8 +23,8 @@ pub use fault::AnswerError;
 pub use identity::Identity;
 pub use ldap_msg::{
     BindRequest, CompareRequest, Control, EncodeError, ExtendedResponse, LdapResult, Message,
-    ProtocolOp, Request, Response, ResultCode, SearchRequest,
+    ProtocolOp, Request, RequestKind, Response, ResultCode, SearchRequest,
 };
-pub use numbers::{GREATEST, number_of, pair_of};
+pub use numbers::{GREATEST_NUMBER, number_of, pair_of};
 pub use requests::{Answering, answering_of, is_update, kind_of, update_in};
 pub use writing::{referral_to, response_to, value_for, write_numbered, write_plain};

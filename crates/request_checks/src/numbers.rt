@@ -4,8 +4,8 @@ ghost use Rattle.request_checks.specs.Numbers.{is_padded, number_of, positive_of
 
 use dir_entry::number_of_digits;
 
-/// The greatest number that is named.
-pub const GREATEST: u64 = 9223372036854775807;
+/// The greatest number that a text names, of an update or of a request: number_of_digits reads no greater one.
+pub const GREATEST_NUMBER: u64 = 9223372036854775807;
 
 /// Whether a text begins with a zero that other octets follow.
 fn is_padded(text: &[u8]) -> bool

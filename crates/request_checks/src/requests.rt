@@ -3,10 +3,10 @@ ghost use Rattle.std.specs.Prelude.{◌≡◌, IfOk, IfErr, is_some};
 ghost use Rattle.ldap_msg.specs.View.{request_view, extended_request_view};
 ghost use Rattle.ldap_msg.specs.Messages.{extended_request};
 ghost use Rattle.ldap_op.specs.View.{update_view};
-ghost use Rattle.request_checks.specs.Requests.{is_noop, update_of, kind_of, answering_of};
+ghost use Rattle.request_checks.specs.Requests.{is_noop, update_of, is_read, kind_of, answering_of};
 
 use crate::controls::Kind;
-use ldap_msg::{ExtendedRequest, Request};
+use ldap_msg::{ExtendedRequest, Request, RequestKind};
 use ldap_op::Update;
 
 /// The extended request for an update that changes nothing and takes a number.
@@ -48,23 +48,23 @@ pub fn is_update(request: &Request) -> bool
     }
 }
 
+/// Whether a request of this kind reads.
+fn is_read(kind: RequestKind) -> bool
+    ensures { result ≡ is_read kind }
+{
+    matches!(kind, RequestKind::Search | RequestKind::Compare)
+}
+
 /// The kind of a request to its controls.
 pub fn kind_of(request: &Request) -> Kind
     ensures { result ≡ kind_of (request_view request.now) }
 {
-    match request {
-        Request::Search(_) | Request::Compare(_) => Kind::Read,
-        Request::Modify(_) | Request::Add(_) | Request::Delete(_) | Request::ModifyDn(_) => {
-            Kind::Update
-        }
-        Request::Extended(extended) => {
-            if is_noop(extended) {
-                Kind::Update
-            } else {
-                Kind::Other
-            }
-        }
-        Request::Bind(_) | Request::Unbind | Request::Abandon(_) => Kind::Other,
+    if is_update(request) {
+        Kind::Update
+    } else if is_read(request.kind()) {
+        Kind::Read
+    } else {
+        Kind::Other
     }
 }
 
@@ -72,15 +72,15 @@ pub fn kind_of(request: &Request) -> Kind
 pub fn answering_of(request: &Request) -> Answering
     ensures { result ≡ answering_of (request_view request.now) }
 {
-    match request {
-        Request::Bind(_) => Answering::Bind,
-        Request::Search(_) => Answering::Search,
-        Request::Modify(_) => Answering::Modify,
-        Request::Add(_) => Answering::Add,
-        Request::Delete(_) => Answering::Delete,
-        Request::ModifyDn(_) => Answering::ModifyDn,
-        Request::Compare(_) => Answering::Compare,
-        Request::Unbind | Request::Abandon(_) | Request::Extended(_) => Answering::Extended,
+    match request.kind() {
+        RequestKind::Bind => Answering::Bind,
+        RequestKind::Search => Answering::Search,
+        RequestKind::Modify => Answering::Modify,
+        RequestKind::Add => Answering::Add,
+        RequestKind::Delete => Answering::Delete,
+        RequestKind::ModifyDn => Answering::ModifyDn,
+        RequestKind::Compare => Answering::Compare,
+        RequestKind::Unbind | RequestKind::Abandon | RequestKind::Extended => Answering::Extended,
     }
 }
 

@@ -3,6 +3,9 @@ use Rattle.std.specs.Prelude.{ℕ, ◌+◌, max, List, [], ◌∷◌, Bool, fals
 use Rattle.request_checks.specs.ldap_schema.Schema.{SchemaModel}
 use Rattle.request_checks.specs.ldap_dn.Names.{RdnModel}
 use Rattle.request_checks.specs.ldap_msg.Messages.{SearchRequestValue, CompareRequestValue, LdapResultValue, RequestValue, bind, unbind, search, modify, add, delete, modify_dn, compare, abandon, extended_request, OperationValue, request, response, MessageValue}
+use Rattle.request_checks.specs.ldap_msg.Kinds.{request_kind}
+use Rattle.request_checks.specs.ldap_msg.declared.kinds.RequestKind.{RequestKind}
+use Rattle.request_checks.specs.ldap_msg.declared.kinds.RequestKind.TheVariants.{Unbind, Abandon}
 use Rattle.directory_api.specs.ldap_op.Values.{OpValue}
 use Rattle.directory_api.specs.Answers.{ReplyModel, only, Answer}
 use Rattle.directory_api.specs.Clients.{named_client}
@@ -43,17 +46,14 @@ pub record Reaction : Type 0 where
   pub next : Next
 
 -- What has no response: an unbind, which ends the session, and an abandon, which does nothing (RFC 4511 4.3, 4.11).
+abbrev pub silence_at : RequestKind → Option Next
+silence_at Unbind = Some Unbound
+silence_at Abandon = Some GoesOn
+silence_at other = None
+
+-- What becomes of the session at a request that has no response; none, where it has one.
 abbrev pub silence_of : RequestValue → Option Next
-silence_of (bind b) = None
-silence_of unbind = Some Unbound
-silence_of (search q) = None
-silence_of (modify m) = None
-silence_of (add a) = None
-silence_of (delete name) = None
-silence_of (modify_dn m) = None
-silence_of (compare c) = None
-silence_of (abandon id) = Some GoesOn
-silence_of (extended_request x) = None
+silence_of r = silence_at (request_kind r)
 
 -- no response
 abbrev pub silent : State → Next → Reaction

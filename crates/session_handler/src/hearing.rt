@@ -8,7 +8,8 @@ ghost use Rattle.session_handler.specs.Session.{silence_of};
 use crate::answered::Next;
 use crate::pending::Pending;
 use request_checks::{
-    Answering, Control, Message, ProtocolOp, Request, ResultCode, answering_of, judge, kind_of,
+    Answering, Control, Message, ProtocolOp, Request, RequestKind, ResultCode, answering_of, judge,
+    kind_of,
 };
 
 /// What a message is before anything is asked.
@@ -37,17 +38,17 @@ pub enum Heard {
 fn silence_of(request: &Request) -> Option<Next>
     ensures { result ≡ silence_of (request_view request.now) }
 {
-    match request {
-        Request::Unbind => Some(Next::Unbound),
-        Request::Abandon(_) => Some(Next::GoesOn),
-        Request::Bind(_)
-        | Request::Search(_)
-        | Request::Modify(_)
-        | Request::Add(_)
-        | Request::Delete(_)
-        | Request::ModifyDn(_)
-        | Request::Compare(_)
-        | Request::Extended(_) => None,
+    match request.kind() {
+        RequestKind::Unbind => Some(Next::Unbound),
+        RequestKind::Abandon => Some(Next::GoesOn),
+        RequestKind::Bind
+        | RequestKind::Search
+        | RequestKind::Modify
+        | RequestKind::Add
+        | RequestKind::Delete
+        | RequestKind::ModifyDn
+        | RequestKind::Compare
+        | RequestKind::Extended => None,
     }
 }
 

@@ -15,7 +15,7 @@ use crate::responses::{result_of, say_numbered};
 use crate::state::State;
 use crate::task::Task;
 use directory_api::{Client, Directory, Ended, Reply, Role, Update, named_client};
-use request_checks::{AnswerError, GREATEST, Identity, ResultCode, response_to, value_for};
+use request_checks::{AnswerError, GREATEST_NUMBER, Identity, ResultCode, response_to, value_for};
 
 /// A client's request for an update.
 #[derive(Clone, Copy)]
@@ -92,7 +92,7 @@ impl Task<'_> {
             (update_as (config_view self.now.config) state.old self.now.pending (update_view update) None)) state.new
             result }
     {
-        if state.requests < GREATEST {
+        if state.requests < GREATEST_NUMBER {
             let number = state.requests + 1;
             let request = ClientRequest {
                 client: self.config.client(),
