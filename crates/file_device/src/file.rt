@@ -16,11 +16,11 @@ use std::io::{ErrorKind, Read};
 use std::os::unix::fs::FileExt;
 use view_store::{Cluster, DeviceFailure};
 
+/// How many octets of a file are read, copied or zeroed at once, at most: a buffer on the stack.
+pub(crate) const PIECE: usize = 65_536;
+
 /// A file with more octets is refused.
 const MAX_OCTETS: usize = 4096;
-
-/// How many octets are read at once, at most.
-const PIECE: usize = 65_536;
 
 /// The version of a stored view of a replica without a journal, and of one with.
 const ALONE: u8 = 2;

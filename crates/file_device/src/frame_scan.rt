@@ -1,10 +1,8 @@
 //! Finds how far whole frames reach in octets that come in pieces.
-use journal::nonzeros;
+use journal::{FRAME_HEADER, nonzeros};
 
-/// How many octets a frame's header has; each of its two numbers has half of them.
-const HEADER: usize = 10;
-
-const DIGITS: usize = 5;
+/// How many octets of a frame's header each of its two numbers has.
+const DIGITS: usize = FRAME_HEADER / 2;
 
 /// The least octet of a header.
 const LEAST: u8 = 128;
@@ -92,11 +90,11 @@ impl FrameScan {
     /// Ends the frame where all of it was read.
     fn end_frame(&mut self) {
         let frame = self.frame;
-        if frame.header < HEADER || frame.read < frame.length {
+        if frame.header < FRAME_HEADER || frame.read < frame.length {
             return;
         }
         if frame.counted == frame.nonzeros {
-            let size = frame.length.saturating_add(HEADER as u64);
+            let size = frame.length.saturating_add(FRAME_HEADER as u64);
             self.end = self.end.saturating_add(size);
             self.frame = NEW;
         } else {
@@ -109,7 +107,7 @@ impl FrameScan {
         let Some((first, rest)) = octets.split_first() else {
             return octets;
         };
-        let rest = if self.frame.header < HEADER {
+        let rest = if self.frame.header < FRAME_HEADER {
             self.take_digit(*first);
             rest
         } else {

@@ -4,18 +4,16 @@ ghost use Rattle.journal.specs.Memory.{grow};
 ghost use Rattle.file_device.specs.History.{octets_of};
 ghost use Rattle.journal.specs.Device.{HasRisen};
 
+use crate::file::PIECE;
 use crate::first_block::BLOCK;
 use crate::journal_file::JournalFile;
 use crate::place::is_full;
 use crate::synced_mark::{MARK_AT, SUM_AT, mark_of};
-use journal::{Device, DeviceFailure, GrowthError, nonzeros};
+use journal::{Device, DeviceFailure, FRAME_HEADER, GrowthError, nonzeros};
 use std::fs::File;
 use std::io::{self, ErrorKind};
 use std::os::unix::fs::FileExt;
 use std::sync::atomic::Ordering;
-
-/// Zeros are written by so many octets at once.
-const PIECE: usize = 65_536;
 
 /// Writes so many zeros behind the end of a file, and syncs them: blocks that are there, and no hole.
 fn write_zeros(file: &File, end: u64, octets: u64) -> io::Result<()> {
@@ -32,10 +30,6 @@ fn write_zeros(file: &File, end: u64, octets: u64) -> io::Result<()> {
 /// How many octets may be synced until the first block notes it once more: each batch does. A greater step writes fewer
 /// pages, and tells damage of as many octets from a torn end less often.
 const MARK_STEP: u64 = 1;
-
-/// How many octets of what is cleared are written and synced first: those of a frame's header, so that no torn write of
-/// the rest makes a frame.
-const HEADER: u64 = 10;
 
 /// The least first octet of a frame. What is cleared begins with 0.
 const FRAME: u8 = 128;
@@ -158,7 +152,7 @@ impl JournalFile {
         self.uncleared = Some(from);
     }
 
-    /// Clears what was put off: the place of a header, and then the rest.
+    /// Clears what was put off: the place of a header first, so that no torn write of the rest makes a frame.
     fn clear(&mut self) -> io::Result<()>
         ensures octets { self.new.octets ≡ self.old.octets }
         ensures failures { self.new.failures ≡ self.old.failures }
@@ -167,7 +161,7 @@ impl JournalFile {
             return Ok(());
         };
         let room = self.octets.size().saturating_sub(from);
-        let header = room.min(HEADER);
+        let header = room.min(FRAME_HEADER as u64);
         let place = from.saturating_add(BLOCK as u64);
         write_zeros(&self.file, place, header)?;
         write_zeros(&self.file, place.saturating_add(header), room - header)?;

@@ -1,6 +1,7 @@
 //! Writes a journal of version 1, which has no first block, anew with one: in a file beside it, which takes its name
 //! once it is synced.
 use crate::fault::FileDeviceError;
+use crate::file::PIECE;
 use crate::first_block::{BLOCK, read_front, write_first_block};
 use crate::judging::{Holding, judge};
 use crate::owner::JournalOwner;
@@ -9,9 +10,6 @@ use std::alloc::Global;
 use std::fs::{File, Files};
 use std::io::{self, ErrorKind, Seek, SeekFrom};
 use std::os::unix::fs::FileExt;
-
-/// How many octets are copied at once.
-const PIECE: usize = 65_536;
 
 /// Copies one piece from a place on to as far behind it as the first block is long; how many octets. None at the end.
 fn copy_piece(from: &File, to: &File, at: u64) -> io::Result<usize> {

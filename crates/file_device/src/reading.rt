@@ -8,7 +8,7 @@ use crate::kept_octets::KeptOctets;
 use std::alloc::Global;
 use std::fs::File;
 
-/// How many octets are read at once, at most.
+/// How many octets are read at once, at most. They stay together in memory until all of them are forgotten.
 const PIECE: usize = 0x10_0000;
 
 /// The next octets of a file, so many at most; none at its end.

@@ -4,8 +4,8 @@ ghost use Rattle.journal.specs.Frames.{are_digits, digits, number, nonzeros, fra
 
 use std::alloc::AllocError;
 
-/// How many octets a header has.
-pub const HEADER: usize = 10;
+/// How many octets stand before a string: its length and the number of its octets that aren't zero, five digits each.
+pub const FRAME_HEADER: usize = 10;
 
 /// How many of these octets aren't zero.
 pub fn nonzeros(octets: &[u8]) -> u64
@@ -123,7 +123,7 @@ pub fn announced(octets: &[u8]) -> Option<u64>
     if !are_digits(*a, *b, *c, *d, *e) || !are_digits(*f, *g, *h, *i, *j) {
         return None;
     }
-    Some(HEADER as u64 + number(*a, *b, *c, *d, *e))
+    Some(FRAME_HEADER as u64 + number(*a, *b, *c, *d, *e))
 }
 
 /// How long the string of the frame at the front is; none where the front isn't a whole frame.

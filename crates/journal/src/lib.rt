@@ -33,7 +33,7 @@ mod zeroing;
 pub use crashing::Fate;
 pub use device::{Device, DeviceFailure};
 pub use fault::{GrowthError, JournalError};
-pub use frames::{next_string, nonzeros, put_string};
+pub use frames::{FRAME_HEADER, next_string, nonzeros, put_string};
 pub use journal::Journal;
 pub use laws::frames_are_read;
 pub use memory::MemoryDevice;

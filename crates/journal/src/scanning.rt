@@ -9,7 +9,7 @@ ghost use Rattle.journal.specs.private.Reading.{TakesFrame};
 
 use crate::device::{Device, DeviceFailure};
 use crate::fault::JournalError;
-use crate::frames::{HEADER, announced, string_size};
+use crate::frames::{FRAME_HEADER, announced, string_size};
 use crate::reader::StringReader;
 use crate::zeroing::{PIECE, clear};
 use std::alloc::Global;
@@ -158,9 +158,9 @@ impl StringReader {
     {
         match string_size(self.ahead()) {
             Some(size) => {
-                self.string_start = self.string_end + HEADER;
+                self.string_start = self.string_end + FRAME_HEADER;
                 self.string_end = self.string_start + size;
-                self.end += (HEADER + size) as u64;
+                self.end += (FRAME_HEADER + size) as u64;
                 true
             }
             None => false,
@@ -182,7 +182,7 @@ impl StringReader {
         ensures failed { IsErrOf result JournalError.DeviceFailed → HasRisen (D.failure_count device.old)
             (D.failure_count device.new) }
     {
-        self.fill(device, HEADER as u64)?;
+        self.fill(device, FRAME_HEADER as u64)?;
         let Some(octets) = announced(self.ahead()) else {
             return Ok(false);
         };

@@ -7,7 +7,7 @@ ghost use Rattle.journal.specs.private.Journal.{Cleared};
 
 use crate::device::{Device, DeviceFailure};
 use crate::fault::JournalError;
-use crate::frames::HEADER;
+use crate::frames::FRAME_HEADER;
 use std::alloc::Global;
 
 /// So many octets are read or cleared at once, where there are as many.
@@ -89,7 +89,7 @@ pub fn clear<D: Device>(
         (D.failure_count device.new) }
 {
     let room = size - end;
-    let header = room.min(HEADER as u64);
+    let header = room.min(FRAME_HEADER as u64);
     let zeros = vec![in alloc; 0u8; room.min(PIECE) as usize]?;
     clear_header(device, end, &zeros[..header as usize], room)?;
     clear_rest(device, end, &zeros, header, room)?;

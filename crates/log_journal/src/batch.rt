@@ -6,15 +6,12 @@ ghost use Rattle.log_journal.specs.Refused.{IsOfPutting};
 ghost use Rattle.log_journal.specs.private.Framed.{IsFramed};
 
 use crate::error::NoteError;
-use journal::{frames_are_read, put_string};
+use journal::{FRAME_HEADER, frames_are_read, put_string};
 use std::alloc::Global;
 use std::marker::Model;
 
 /// The octets of a batch are fewer.
 const MOST: usize = 0x8_0000_0000;
-
-/// How many octets stand before a string.
-pub const HEADER: usize = 10;
 
 /// Strings that wait to be settled, as the octets of their frames.
 #[derive(Drop)]
@@ -36,7 +33,7 @@ pub fn push_frame(octets: &mut Vec<u8>, string: &[u8]) -> Result<(), NoteError>
         (10 + length string.now) }
 {
     frames_are_read();
-    if string.len() + HEADER >= MOST - octets.as_slice().len() {
+    if string.len() + FRAME_HEADER >= MOST - octets.as_slice().len() {
         return Err(NoteError::Full);
     }
     put_string(octets, string)?;

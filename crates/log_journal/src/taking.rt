@@ -9,12 +9,13 @@ ghost use Rattle.vr_state.specs.Step.{step as step_of};
 ghost use Rattle.vr_state.specs.Views.{state};
 
 use crate::alike::count_alike;
-use crate::batch::{Batch, HEADER};
+use crate::batch::Batch;
 use crate::copying::copy_replica;
 use crate::error::NoteError;
 use crate::fields::LEAST;
 use crate::light::{light_room, put_light};
 use crate::steps::{Before, put_step};
+use journal::FRAME_HEADER;
 use ldap_op::Op;
 use std::alloc::{AllocError, Global};
 use vr_recover::step;
@@ -48,7 +49,7 @@ fn take_light(
         Ok(string) => string,
         Err(error) => return Ok(Err(error)),
     };
-    match batch.octets.reserve(HEADER + LEAST + room) {
+    match batch.octets.reserve(FRAME_HEADER + LEAST + room) {
         Ok(()) => {}
         Err(error) => return Ok(Err(error)),
     }
