@@ -9,6 +9,7 @@ pub mod LevelFacts
 pub mod WayChanges
 pub mod TreeSteps
 pub mod Updates
+pub mod UpdatesMade
 pub mod UpFacts
 pub mod TreeReads
 pub mod TreeCrossing

@@ -1,5 +1,5 @@
 -- Names, and which begins which.
-use Rattle.std.proofs.Common.{◌≡◌, ℕ, zero, suc, ◌-◌, ◌≤◌, Bool, true, false, cond, List, [], ◌∷◌, ◌++◌, length, take, drop, refl, sym, ap, ◌∙◌, subst, arith, nat_eq, Some, None}
+use Rattle.std.proofs.Common.{◌≡◌, ℕ, zero, suc, ◌-◌, ◌≤◌, Bool, true, false, cond, List, [], ◌∷◌, ◌++◌, length, take, drop, append-nil, refl, sym, ap, ◌∙◌, subst, arith, nat_eq, Some, None}
 use Rattle.std.specs.Prelude.{◌&&◌, ◌||◌}
 use Rattle.std.specs.Bool.{Decides}
 use Rattle.std.specs.Cmp.{IsEquivalence}
@@ -7,7 +7,7 @@ use Rattle.std.specs.Cmp.Lexicographic.{lists_equiv, pointwise_decides}
 use Rattle.std.specs.Str.{bytes_eq}
 use Rattle.std.proofs.Math.Seq.{take-length}
 use Rattle.std.proofs.lemmas.Bool.{eq-eqb}
-use Rattle.std.proofs.lemmas.List.{length-take-le, take-map, drop-map, length-map, take_rest}
+use Rattle.std.proofs.lemmas.List.{length-take-le, take-map, drop-map, length-map, map-append, take_rest}
 use Rattle.std.proofs.lemmas.Slice.Eq.{bytes_eq-Decides}
 use Rattle.dir_entry.specs.ldap_dn.Names.{TypeAndKey, RdnModel, rdns, are_same_keys, is_front}
 use Rattle.dir_entry.specs.ldap_dn.OrderLaws.{rdn_equiv}
@@ -202,3 +202,31 @@ pub behind_off : (front name : List RdnModel) (v : Bool) → v ≡ false → v �
     None ≡ cond (begins (rdns front) (rdns name)) (Some (drop (length front) name)) None
 behind_off front name v t h = sym (ap (λ (b : Bool). cond b (Some (drop (length front) name)) None)
     (sym (front_begins front name) ∙ sym h ∙ t))
+
+-- the last of a name
+
+pub record IsLast (name : List RdnModel) : Type 0 where
+  pub front : List RdnModel
+  pub rdn : RdnModel
+  pub is : name ≡ front ++ rdn ∷ []
+  pub last : drop (length name - 1) name ≡ rdn ∷ []
+
+pub last-split : (name : List RdnModel) → (name ≡ [] → ⊥) → IsLast name
+last-split [] h = absurd (h refl)
+last-split (x ∷ []) h = record { front = []; rdn = x; is = refl; last = ap (λ (m : ℕ). drop m (x ∷ [])) (less_one 0) }
+last-split (x ∷ y ∷ l) h =
+    let e = last-split (y ∷ l) (λ g. cc g) in
+    record {
+      front = x ∷ e.front;
+      rdn = e.rdn;
+      is = ap (λ (m : List RdnModel). x ∷ m) e.is;
+      last = ap (λ (m : ℕ). drop m (x ∷ y ∷ l)) (less_one (suc (length l))) ∙ ap (λ (m : ℕ). drop m (y ∷ l))
+          (sym (less_one (length l))) ∙ e.last;
+    }
+
+pub last-key : (name : List RdnModel) (e : IsLast name) → rdns name ≡ rdns e.front ++ e.rdn.keys ∷ []
+last-key name e = ap rdns e.is ∙ map-append (λ (r : RdnModel). r.keys) e.front (e.rdn ∷ [])
+
+pub last-above : (name : List RdnModel) (e : IsLast name) → above (rdns name) ≡ rdns e.front
+last-above name e = ap (λ (q : NameKey). above q) (last-key name e) ∙ above-joined (rdns e.front) e.rdn.keys []
+    ∙ append-nil (rdns e.front)

@@ -4,7 +4,7 @@ use Rattle.std.specs.Prelude.{◌&&◌, is_some}
 use Rattle.std.specs.Option.{option_map, option_map_or, option_and_then}
 use Rattle.std.specs.List.{list_any}
 use Rattle.std.specs.Map.{keys_of}
-use Rattle.std.proofs.lemmas.List.{length-map, map-append}
+use Rattle.std.proofs.lemmas.List.{length-map}
 use Rattle.dir_entry.specs.shared_map.Sets.{has_number}
 use Rattle.dir_entry.specs.ldap_dn.Names.{RdnModel, rdns, TypeAndKey, are_same_keys}
 use Rattle.dir_entry.specs.Entry.{KeyedAttribute}
@@ -20,44 +20,13 @@ use Rattle.dir_tree.specs.Kept.{shown}
 use Rattle.dir_tree.specs.private.Kept.{IsTree, IsPlaced, IsRemoved, root_but}
 use Rattle.dir_tree.specs.Placed.{name_placed, name_under}
 use Rattle.dir_tree.proofs.Kept.{own_eq, same_number, apart_eq, under, under-out}
-use Rattle.dir_tree.proofs.NameFacts.{begins-own, begins-joined, begins-long, name_decides, name_eq-refl, part_decides, both, and_true, above-joined}
+use Rattle.dir_tree.proofs.NameFacts.{IsLast, last-split, last-key, last-above, begins-own, begins-joined, begins-long, name_decides, name_eq-refl, part_decides, both, and_true}
 use Rattle.dir_tree.proofs.Ways.{ends-more, name-root, name-under, under-above, climb}
 use Rattle.dir_tree.proofs.Hung.{key, key-under, key-top, over-is, key-one, number-key, number-push, long-under, suffix-in, top-root}
 use Rattle.dir_tree.proofs.Found.{listed, find-is, some-is, place-some}
 use Rattle.dir_tree.proofs.Changing.{IsChange, hung-after, listed-after, name-stays, name-moved, ends-stays, ends-topped, ends-moved, ends-onto, over-leaf, put-own}
 use Rattle.dir_tree.proofs.Shown.{places-out, below-none, shown-put, shown-out, shown-set}
 use Rattle.dir_tree.proofs.TreeSteps.{placed_tree, placed-shown}
-
--- ---- the last of a name
-
-pub record IsLast (name : List RdnModel) : Type 0 where
-  pub front : List RdnModel
-  pub rdn : RdnModel
-  pub is : name ≡ front ++ rdn ∷ []
-  pub last : drop (length name - 1) name ≡ rdn ∷ []
-
-less_one : (k : ℕ) → suc k - 1 ≡ k
-less_one k = omega arith
-
-pub last-split : (name : List RdnModel) → (name ≡ [] → ⊥) → IsLast name
-last-split [] h = absurd (h refl)
-last-split (x ∷ []) h = record { front = []; rdn = x; is = refl; last = ap (λ (m : ℕ). drop m (x ∷ [])) (less_one 0) }
-last-split (x ∷ y ∷ l) h =
-    let e = last-split (y ∷ l) (λ g. cc g) in
-    record {
-      front = x ∷ e.front;
-      rdn = e.rdn;
-      is = ap (λ (m : List RdnModel). x ∷ m) e.is;
-      last = ap (λ (m : ℕ). drop m (x ∷ y ∷ l)) (less_one (suc (length l))) ∙ ap (λ (m : ℕ). drop m (y ∷ l))
-          (sym (less_one (length l))) ∙ e.last;
-    }
-
-last-key : (name : List RdnModel) (e : IsLast name) → rdns name ≡ rdns e.front ++ e.rdn.keys ∷ []
-last-key name e = ap rdns e.is ∙ map-append (λ (r : RdnModel). r.keys) e.front (e.rdn ∷ [])
-
-last-above : (name : List RdnModel) (e : IsLast name) → above (rdns name) ≡ rdns e.front
-last-above name e = ap (λ (q : NameKey). above q) (last-key name e) ∙ above-joined (rdns e.front) e.rdn.keys []
-    ∙ append-nil (rdns e.front)
 
 -- ---- what is found
 
@@ -803,76 +772,3 @@ module _ (r : Roots) (t : IsTree r) where
             placed-shown r r' k v r.root (r.reach + 1 + length name) d'
             ∙ shown-set r.reach (r.reach + 1 + length name) (place_at r.entries)
             (put (place_at r.entries) k (Some v.place)) k g w v r.entries t.rises h own others
-
--- ---- as the code has them
-
-pub added_as : (r r' : Roots) (t : IsTree r) (k : ℕ) (name : List RdnModel) (place : Place)
-    (entry : List KeyedAttribute) (v : Standing) (up root : Option ℕ) (reach : ℕ) → AllBelow k (shown r) →
-    is_some (find (rdns name) (shown r)) ≡ false
-    → has_footing (rdns r.suffix) (rdns name) (shown r) ≡ true → up ≡ superior r t name → root ≡ root_after r t k up →
-    reach ≡ r.reach + 1 → place ≡ place_of up name → v ≡ record { place = place; own = k ∷ []; entry = entry } →
-    IsPlaced r k v root reach r'
-    → IsTree r' × (shown r' ≡ shown r ++ record {
-      number = k;
-      name = name_placed (rdns r.suffix) name (shown r);
-      entry = entry;
-    } ∷ [])
-added_as r r' t k name place entry v up root reach b gone foot e g h at is d =
-    added r t r' k name entry up root b gone foot e g
-    (subst (λ (x : Place). IsPlaced r k (record { place = x; own = k ∷ []; entry = entry }) root (r.reach + 1) r') at
-    (subst (λ (m : ℕ). IsPlaced r k (record { place = place; own = k ∷ []; entry = entry }) root m r') h
-    (subst (λ (y : Standing). IsPlaced r k y root reach r') is d)))
-
-pub renamed_as : (r r' : Roots) (t : IsTree r) (k : ℕ) (q : NameKey) (name : List RdnModel) (place : Place)
-    (entry : List KeyedAttribute) (v : Standing) (up : Option ℕ) (first reach : ℕ) →
-    option_map (λ (e : Entered). e.number) (find q (shown r)) ≡ Some k
-    → name_eq q (rdns r.suffix) ≡ false → is_some (find (above (rdns name)) (shown r)) ≡ true →
-    begins q (above (rdns name)) ≡ false → (is_some (find (rdns name) (shown r)) ≡ true → name_eq q (rdns name) ≡
-    true)
-    → up ≡ number_at (step_at r.levels) (rdns r.suffix) r.root (above (rdns name)) → first ≡ r.reach + 1 →
-    reach ≡ first + length name → place ≡ place_of up name → v ≡ record {
-      place = place;
-      own = k ∷ [];
-      entry =
-          entry;
-    } → IsPlaced r k v r.root reach r'
-    → IsTree r' × (shown r' ≡ moved q (name_placed (rdns r.suffix) name (shown r)) entry (shown r))
-renamed_as r r' t k q name place entry v up first reach here root parent apart free e g h at is d =
-    by up refl (under k r.entries) refl
-  where
-    number : number_at (step_at r.levels) (rdns r.suffix) r.root q ≡ Some k
-    number = sym (find-is (rdns r.suffix) r.root r.reach r.entries (step_at r.levels) t.hung q) ∙ here
-
-    stands : is_some (place_at r.entries k) ≡ true
-    stands = (number-key (rdns r.suffix) r.root r.reach (place_at r.entries) (step_at r.levels) t.hung q k number).1
-
-    found-above : is_some up ≡ true
-    found-above = ap (λ (o : Option ℕ). is_some o) e ∙ sym (some-is (rdns r.suffix) r.root r.reach r.entries
-        (step_at r.levels) t.hung (above (rdns name))) ∙ parent
-
-    by : (o : Option ℕ) → up ≡ o → (w : Option Standing) → under k r.entries ≡ w → IsTree r'
-        × (shown r' ≡ moved q (name_placed (rdns r.suffix) name (shown r)) entry (shown r))
-    by None f w u = absurd (cc (found-above, ap (λ (o : Option ℕ). is_some o) f))
-    by (Some a) f None u = absurd
-        (cc (stands, ap (λ (o : Option Standing). is_some (option_map (λ (s : Standing). s.place) o)) u))
-    by (Some a) f (Some w) u =
-        renamed r t k q name a (record { here = number; root = root; parent = sym e ∙ f; apart = apart; free = free })
-        r' entry w u
-        (subst (λ (o : Option ℕ). IsPlaced r k (record { place = place_of o name; own = k ∷ []; entry = entry })
-        r.root (r.reach + 1 + length name) r') f
-        (subst (λ (x : Place). IsPlaced r k (record { place = x; own = k ∷ []; entry = entry }) r.root
-        (r.reach + 1 + length name) r') at
-        (subst (λ (m : ℕ). IsPlaced r k (record { place = place; own = k ∷ []; entry = entry }) r.root m r')
-        (h ∙ ap (λ (m : ℕ). m + length name) g)
-        (subst (λ (y : Standing). IsPlaced r k y r.root reach r') is d))))
-
-pub deleted_as : (r r' : Roots) (t : IsTree r) (q : NameKey) (k : ℕ) → option_map (λ (e : Entered). e.number)
-    (find q (shown r)) ≡ Some k → has_below q (shown r) ≡ false → IsRemoved r k r' → IsTree r'
-    × (shown r' ≡ unnumbered k (shown r))
-deleted_as r r' t q k here none d = deleted r t r' q k
-    (sym (find-is (rdns r.suffix) r.root r.reach r.entries (step_at r.levels) t.hung q) ∙ here) none d
-
-pub leaf_as : (r : Roots) (t : IsTree r) (q : NameKey) (k : ℕ) → option_map (λ (e : Entered). e.number)
-    (find q (shown r)) ≡ Some k → has_below q (shown r) ≡ false → (j : ℕ) → above_in (place_at r.entries j) ≡ Some k → ⊥
-leaf_as r t q k here none = leaf-is r t q k (sym (find-is (rdns r.suffix) r.root r.reach r.entries (step_at r.levels)
-    t.hung q) ∙ here) none

@@ -4,7 +4,8 @@ use Rattle.std.proofs.Common.{List, ap, ◌∙◌}
 use Rattle.dir_entry.specs.ldap_dn.Names.{RdnModel}
 use Rattle.dir_tree.specs.declared.roots.Roots.{Roots}
 use Rattle.dir_tree.proofs.LevelFacts.{if_ok}
-use Rattle.dir_tree.proofs.Updates.{added_as, superior}
+use Rattle.dir_tree.proofs.Updates.{superior}
+use Rattle.dir_tree.proofs.UpdatesMade.{added_as}
 use Rattle.dir_tree.proofs.roots.Roots.added.Goals as goal
 
 pub returns-clause-tree : goal.returns-clause-tree

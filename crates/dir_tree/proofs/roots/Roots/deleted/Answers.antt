@@ -3,7 +3,7 @@
 use Rattle.dir_entry.specs.ldap_dn.Names.{rdns}
 use Rattle.dir_tree.specs.declared.roots.Roots.{Roots}
 use Rattle.dir_tree.proofs.LevelFacts.{if_ok}
-use Rattle.dir_tree.proofs.Updates.{deleted_as, leaf_as}
+use Rattle.dir_tree.proofs.UpdatesMade.{deleted_as, leaf_as}
 use Rattle.dir_tree.proofs.roots.Roots.deleted.Goals as goal
 
 pub removed-requires-clause-leaf : goal.removed-requires-clause-leaf

@@ -6,7 +6,7 @@ use Rattle.dir_tree.specs.Directory.{above}
 use Rattle.dir_tree.specs.declared.roots.Roots.{Roots}
 use Rattle.dir_tree.specs.private.Superiors.{number_at, step_at}
 use Rattle.dir_tree.proofs.LevelFacts.{if_ok}
-use Rattle.dir_tree.proofs.Updates.{renamed_as}
+use Rattle.dir_tree.proofs.UpdatesMade.{renamed_as}
 use Rattle.dir_tree.proofs.roots.Roots.renamed.Goals as goal
 
 pub returns-clause-tree : goal.returns-clause-tree
