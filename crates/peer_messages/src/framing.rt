@@ -1,5 +1,6 @@
 //! Makes frames of messages, in the thread that sends them and outside every lock. A message to a replica that reads
 //! notes leaves out what that replica has said that it has committed.
+use crate::answers::{answer_in, are_long};
 use crate::parts::PeerParts;
 use crate::telling::{tell_lost, tell_refused_by, tell_silent};
 use peer_link::{
@@ -10,7 +11,6 @@ use std::alloc::{AllocError, Global};
 use std::sync::Wait;
 use std::sync::atomic::Ordering;
 use vr_short::{note, noted};
-use vr_state::words::LogEntry;
 
 /// How many octets of a long message a part has: few enough that each part is a sign of life in time, also where a
 /// stream takes no more than a mebibyte within the shortest time after which a replica is suspected.
@@ -23,32 +23,6 @@ const UNREAD: u64 = 16;
 /// An answer of so many octets is sent to one replica at a time, so that no more than one copy of the log is made,
 /// however many replicas ask for it.
 const LONG: usize = 16_777_216;
-
-/// The records that an answer tells: one that a replica has asked for, and asks for again where it doesn't come.
-fn answer_in(message: &PeerMessage<Op>) -> Option<&[LogEntry<Op>]> {
-    match message {
-        PeerMessage::NewState { tail, .. } => Some(tail.log.as_slice()),
-        PeerMessage::RecoveryResponse { response, .. } => match &response.held {
-            Some(held) => Some(held.log.as_slice()),
-            None => None,
-        },
-        _ => None,
-    }
-}
-
-/// Whether records have so many octets together. No more of them are looked at than have as many.
-fn are_long(records: &[LogEntry<Op>], octets: usize) -> bool {
-    let mut count: usize = 0;
-    for record in records {
-        if count >= octets {
-            break;
-        }
-        if let Some(payload) = record.payload.octets() {
-            count = count.saturating_add(payload.len());
-        }
-    }
-    count >= octets
-}
 
 /// Makes the frames of messages to one replica: one of each message that fits in one, else its parts. A message that
 /// can't be made frames of is told of.

@@ -5,19 +5,30 @@
 //! `reaching` dials another replica and says where it can't be reached. `progress` keeps how far each replica is;
 //! `links` keeps on how many connections it is heard, and what it has said.
 //!
-//! Of all this, safety alone is proved.
+//! Proved: what decides in these, as values. That is what a message weighs in a queue (`weighing`), which answer is
+//! long and may go out (`answers`), which message is sent for the same as another (`errands`) and how much a replica
+//! has said that it has committed (`saying`). So is which start of a replica is heard, and what of it is news
+//! (`link_table`), and what is said of a replica that is dialed (`reachability`). Of the locks and atomics that hold
+//! these values, and of the threads that ask them, safety alone is proved.
 #![tactic(auto)]
 
+mod answers;
+mod errands;
 mod framing;
+mod link_table;
 mod links;
 mod parts;
 mod posting;
 mod progress;
+mod reachability;
 mod reaching;
+mod saying;
 mod telling;
+mod weighing;
 
 pub use framing::MessageFrames;
-pub use links::{Forgetful, Links};
+pub use link_table::Forgetful;
+pub use links::Links;
 pub use parts::PeerParts;
 pub use peer_link::{
     Address, Came, Claim, Cluster, Forgotten, FrameEnd, Gathering, HEADING, Heading, LinkTimes,

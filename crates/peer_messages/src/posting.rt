@@ -1,35 +1,8 @@
 //! Puts messages to other replicas into the queues of their receivers.
 use crate::parts::PeerParts;
+use crate::weighing::weight_of;
 use peer_link::{Op, PeerMessage};
 use std::sync::Wait;
-
-/// What a message weighs without its records: about the memory that it takes.
-const MESSAGE: usize = 64;
-
-/// What a record weighs: about the memory that it takes beside its payload, which the node's log shares.
-const RECORD: usize = 64;
-
-/// How many records a message tells.
-fn records_in(message: &PeerMessage<Op>) -> usize {
-    match message {
-        PeerMessage::Prepare { .. } => 1,
-        PeerMessage::DoViewChange { change, .. } => change.log.len(),
-        PeerMessage::StartView { held, .. } => held.log.len(),
-        PeerMessage::NewState { tail, .. } => tail.log.len(),
-        PeerMessage::RecoveryResponse { response, .. } => match &response.held {
-            Some(held) => held.log.len(),
-            None => 0,
-        },
-        _ => 0,
-    }
-}
-
-/// What a message weighs in a queue. No payload is looked at.
-fn weight_of(message: &PeerMessage<Op>) -> usize {
-    records_in(message)
-        .saturating_mul(RECORD)
-        .saturating_add(MESSAGE)
-}
 
 impl<'a> PeerParts<'a> {
     /// Puts a message into the queue to the replica of this index, behind those that wait there. It takes no memory and

@@ -1,4 +1,5 @@
 //! Dials another replica, and says where it can't be reached, and where it is again: once for each change.
+use crate::reachability::{News, Reachability};
 use crate::telling::{tell_reached, tell_unreached};
 use peer_link::{Address, Dial, SocketDialer, StreamState};
 use server_monitor::Reporter;
@@ -14,8 +15,8 @@ pub struct TellingDialer<'a, R> {
     to: usize,
     address: Address<'a>,
     dialer: SocketDialer<'a, R>,
-    /// Whether it was said last that it can't be reached.
-    is_missed: bool,
+    /// What was said of it last.
+    reachability: Reachability,
 }
 
 // Not derived: see "What the gate takes" in docs/ARCHITECTURE.md.
@@ -28,7 +29,7 @@ impl<'a, R> Drop for TellingDialer<'a, R> {
             to: _,
             address: _,
             dialer: _,
-            is_missed: _,
+            reachability: _,
         } = self;
     }
 }
@@ -50,7 +51,7 @@ impl<'a, R> TellingDialer<'a, R> {
             to,
             address,
             dialer,
-            is_missed: false,
+            reachability: Reachability::new(),
         }
     }
 }
@@ -61,13 +62,12 @@ impl<'a, R: Net<Stream = TcpStream> + Wait> Dial for TellingDialer<'a, R> {
     fn dial(&mut self) -> Option<TcpStream> {
         let stream = self.dialer.dial();
         let (rt, alloc, to, address) = (self.rt, self.alloc, self.to, self.address);
-        if stream.is_some() == self.is_missed {
-            self.is_missed = !self.is_missed;
-            if self.is_missed {
+        match self.reachability.note(stream.is_some()) {
+            Some(News::Unreached) => {
                 tell_unreached(rt, alloc, self.reporter, to, address, self.dialer.cause());
-            } else {
-                tell_reached(rt, alloc, self.reporter, to, address);
             }
+            Some(News::Reached) => tell_reached(rt, alloc, self.reporter, to, address),
+            None => {}
         }
         stream
     }

@@ -1,0 +1,8 @@
+-- What no public contract leads to: contracts of other functions, and proofs, speak of it. Who trusts the public ones
+-- need not read it.
+pub mod Weights
+pub mod Answers
+pub mod Errands
+pub mod Saying
+pub mod Links
+pub mod Reachability
