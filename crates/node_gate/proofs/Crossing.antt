@@ -15,6 +15,7 @@ use Rattle.std.proofs.sync.Mutex.TheSendSync as mutex
 use Rattle.node_gate.proofs.inbox.Inbox.TheSendSync as inbox
 use Rattle.node_gate.proofs.running.Call.TheSendSync as call
 use Rattle.node_gate.proofs.standing.LastStanding.TheSendSync as standing
+use Rattle.node_gate.proofs.waiters.Waiters.TheSendSync as waiters
 use Rattle.dir_node.proofs.Crossing.{node_send}
 use Rattle.dir_node.proofs.Op.TheSendSync as op
 use Rattle.dir_node.proofs.Send.TheSendSync as send
@@ -54,7 +55,10 @@ module _ (D J I : RattleType) (g : Device.Ghosts D.Denot) (h : JournalDevice.Gho
         published_field_send a R y s t,
         (
           search (crosses, sendable) depth 40,
-          (plain_send _ _ _ _ _, (plain_send _ _ _ _ _, (plain_send _ _ _ _ _, (phantom.the_field_send I, tt)))),
+          (
+            plain_send _ _ _ _ _,
+            (plain_send _ _ _ _ _, (plain_send _ _ _ _ _, (plain_send _ _ _ _ _, (phantom.the_field_send I, tt)))),
+          ),
         ),
       ))
 
@@ -85,7 +89,7 @@ module _ (D J I : RattleType) (g : Device.Ghosts D.Denot) (h : JournalDevice.Gho
           (
             teller_field_sync Here.the_row,
             (
-              condvar.the_field_sync,
+              waiters.the_field_sync,
               (
                 search (inbox.the_sync, sendable) depth 20,
                 (

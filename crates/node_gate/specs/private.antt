@@ -5,3 +5,4 @@ pub mod Shared
 pub mod Given
 pub mod Handled
 pub mod Batches
+pub mod Waking

@@ -17,6 +17,7 @@ use crate::inbox::{EventBatch, Inbox};
 use crate::moved::{Handed, Moved};
 use crate::peers::Peers;
 use crate::running::{SharedNode, copies, send_outputs};
+use crate::waiters::Called;
 use dir_node::{Device, Event, JournalDevice, Node, NodeError, Op, Outputs, PeerMessage, Send};
 use replica_clock::{Asked, Due};
 use std::alloc::{AllocError, Global};
@@ -271,10 +272,11 @@ impl<'a, R: Wait, D: Device, J: JournalDevice, I: NodeIdentity> SharedNode<'a, R
             events,
             heard,
             beat_at,
+            requests,
             last,
         } = batch;
         let mut held = self.held.lock(rt);
-        let ask_at = held.ask_at();
+        let (ask_at, prospect, length) = (held.ask_at(), held.prospect(), held.node().log_len());
         let before = Snapshot::of(held.node());
         let done = take_all(alloc, &mut held, peers, events, beat_at);
         let after = Snapshot::of(held.node());
@@ -282,8 +284,11 @@ impl<'a, R: Wait, D: Device, J: JournalDevice, I: NodeIdentity> SharedNode<'a, R
         held.had = last;
         let is_early = held.ask_at() < ask_at;
         self.standing.set(held.standing());
+        // With each beat those who wait look again, whatever has come.
+        let is_certain = beat_at.is_none() && held.has_appended(requests, length);
+        let called = held.called_since(prospect, is_certain);
         drop(held);
-        self.changed.notify_all();
+        self.waiters.wake(called);
         if is_early {
             self.call_early(rt);
         }

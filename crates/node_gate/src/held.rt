@@ -14,6 +14,7 @@ use crate::identity::NodeIdentity;
 use crate::inbox::HeardSign;
 use crate::published::PublishedNode;
 use crate::telling::{told_by_step, told_by_steps};
+use crate::waiters::Called;
 pub use dir_node::Standing;
 use dir_node::{
     AllHandled, Device, Event, Handled, JournalDevice, Node, NodeError, Op, Outcome, Status,
@@ -44,11 +45,23 @@ impl Pulse {
     }
 }
 
+/// What decides how an update ends that waits for its outcome: while this stays as it is, what is pending is pending,
+/// but where its client asks for another update meanwhile.
+#[derive(Clone, Copy, Debug, PartialEq, Eq)]
+pub struct Prospect {
+    executed: u64,
+    view_number: u64,
+    standing: Standing,
+    is_halted: bool,
+}
+
 /// The node with this identity, what its seats see of it, its clock, and whether those who wait are to go on.
 pub struct LockedNode<'a, R: Wait, D: Device, J: JournalDevice, I: NodeIdentity> {
     published: PublishedNode<'a, R, D, J>,
     clock: ReplicaClock,
     pub is_stopping: bool,
+    /// How many wait for the outcome of an update.
+    pub waiting: u64,
     /// How many of the events that were posted the node has had.
     pub had: u64,
     /// How many records its backups were told to be committed, or are told with its next beat.
@@ -65,6 +78,7 @@ impl<'a, R: Wait, D: Device + Drop, J: JournalDevice + Drop, I: NodeIdentity> Dr
             published: _,
             clock: _,
             is_stopping: _,
+            waiting: _,
             had: _,
             told: _,
             of: _,
@@ -93,6 +107,7 @@ impl<'a, R: Wait, D: Device, J: JournalDevice, I: NodeIdentity> LockedNode<'a, R
             published,
             clock,
             is_stopping: false,
+            waiting: 0,
             had: 0,
             told: 0,
             of: PhantomData,
@@ -116,6 +131,45 @@ impl<'a, R: Wait, D: Device, J: JournalDevice, I: NodeIdentity> LockedNode<'a, R
             log_length: node.log_len(),
             is_halted: node.is_halted(),
         }
+    }
+
+    /// What those look at who wait for an outcome.
+    pub fn prospect(&self) -> Prospect {
+        let node = self.node();
+        Prospect {
+            executed: node.executed_len() as u64,
+            view_number: node.view_number(),
+            standing: node.standing(),
+            is_halted: node.is_halted(),
+        }
+    }
+
+    /// Whose outcomes may have come since then: all may, where it isn't certain that those have not of updates that
+    /// weren't executed.
+    pub fn called_since(&self, before: Prospect, is_certain: bool) -> Called {
+        if self.waiting == 0 {
+            return Called::nobody();
+        }
+        if !is_certain {
+            return Called::all();
+        }
+        let now = self.prospect();
+        let executed = Prospect {
+            executed: now.executed,
+            ..before
+        };
+        let log = self.node().log();
+        match log.get(before.executed as usize..now.executed as usize) {
+            Some(updates) if now == executed => Called::for_updates(updates),
+            _ => Called::all(),
+        }
+    }
+
+    /// Whether each of so many requests that were handed over since the log had this length is in it now: a primary's
+    /// log grows by nothing else.
+    pub fn has_appended(&self, requests: u64, length: u64) -> bool {
+        let node = self.node();
+        node.standing() == Standing::Primary && node.log_len() == length.saturating_add(requests)
     }
 
     /// How the node stands to sessions: one that went on from its journal is as one that recovers, until it has

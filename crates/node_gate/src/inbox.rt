@@ -25,6 +25,8 @@ pub struct EventBatch {
     pub heard: Vec<HeardSign>,
     /// Which of the events is the clock's last beat, if one is.
     pub beat_at: Option<usize>,
+    /// How many of the events are requests of clients.
+    pub requests: u64,
     /// The number of the last event, of all that were ever posted.
     pub last: u64,
 }
@@ -35,13 +37,18 @@ impl EventBatch {
             events: Vec::new(alloc),
             heard: Vec::new(alloc),
             beat_at: None,
+            requests: 0,
             last,
         }
     }
 
     /// Adds an event; its number. At an error nothing has changed.
     fn push(&mut self, event: Event<Op>) -> Result<u64, AllocError> {
+        let is_request = matches!(event, Event::Request { .. });
         self.events.push(event)?;
+        if is_request {
+            self.requests = self.requests.saturating_add(1);
+        }
         self.last = self.last.saturating_add(1);
         Ok(self.last)
     }

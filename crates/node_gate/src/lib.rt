@@ -36,6 +36,7 @@ mod published;
 mod running;
 mod standing;
 mod telling;
+mod waiters;
 
 pub use arrival::Arrival;
 pub use dir_node::{

@@ -18,6 +18,7 @@ use crate::moved::{Acted, Moved};
 use crate::peers::{Peers, send_all};
 use crate::published::{Here, PublishedNode};
 use crate::standing::LastStanding;
+use crate::waiters::{Called, Waiters};
 use dir_node::{
     Device, Event, JournalDevice, Node, NodeError, Op, Outputs, Send, Standing, copy_message,
 };
@@ -37,14 +38,14 @@ struct Call {
     is_stopping: bool,
 }
 
-/// The node with this identity under its lock, with a condition that is told of each change, and one for the thread
-/// that asks its clock.
+/// The node with this identity under its lock, with conditions for those who wait for the outcomes of updates, and one
+/// for the thread that asks its clock.
 pub struct SharedNode<'a, R: Wait, D: Device, J: JournalDevice, I: NodeIdentity> {
     pub(crate) held: Mutex<LockedNode<'a, R, D, J, I>>,
     /// The standing to sessions after the last event, for who doesn't wait for the lock.
     pub(crate) standing: LastStanding,
     teller: Teller<Here>,
-    pub(crate) changed: Condvar,
+    pub(crate) waiters: Waiters,
     /// Events that wait for the thread that drives a node with a journal; none without one.
     pub(crate) inbox: Option<Inbox>,
     /// What the last beat of that thread has sent, until the thread of the clock takes it.
@@ -61,7 +62,7 @@ impl<'a, R: Wait, D: Device + Drop, J: JournalDevice + Drop, I: NodeIdentity> Dr
             held: _,
             standing: _,
             teller: _,
-            changed: _,
+            waiters: _,
             inbox: _,
             beat: _,
             call: _,
@@ -216,7 +217,7 @@ impl<'a, R: Wait, D: Device, J: JournalDevice, I: NodeIdentity> SharedNode<'a, R
             standing: LastStanding::new(held.standing()),
             teller,
             held: Mutex::new(held),
-            changed: Condvar::new(),
+            waiters: Waiters::new(),
             inbox,
             beat: Mutex::new(None),
             call: Mutex::new(Call {
@@ -228,8 +229,8 @@ impl<'a, R: Wait, D: Device, J: JournalDevice, I: NodeIdentity> SharedNode<'a, R
     }
 
     /// Hands an event to the node, which shows the seats what it then has executed; hands over what the step sends, in
-    /// the order of the steps; and tells those who wait. Its errors are the node's. It gives the node as the lock held
-    /// it before the event and after it, for clauses alone.
+    /// the order of the steps; and wakes those who wait, where an outcome may have come. Its errors are the node's. It
+    /// gives the node as the lock held it before the event and after it, for clauses alone.
     pub fn handle<P: Peers>(
         &self,
         rt: &R,
@@ -244,12 +245,14 @@ impl<'a, R: Wait, D: Device, J: JournalDevice, I: NodeIdentity> SharedNode<'a, R
             peers.old peers.new) }
     {
         let mut held = self.held.lock(rt);
+        let prospect = held.prospect();
         let before = Snapshot::of(held.node());
         let done = take(alloc, &mut held, peers, event);
         let after = Snapshot::of(held.node());
         self.standing.set(held.standing());
+        let called = held.called_since(prospect, true);
         drop(held);
-        self.changed.notify_all();
+        self.waiters.wake(called);
         (done, Moved { before, after })
     }
 
@@ -268,14 +271,15 @@ impl<'a, R: Wait, D: Device, J: JournalDevice, I: NodeIdentity> SharedNode<'a, R
             result.1.before.value result.1.after.value peers.old peers.new) }
     {
         let mut held = self.held.lock(rt);
-        let ask_at = held.ask_at();
+        let (ask_at, prospect) = (held.ask_at(), held.prospect());
         let before = Snapshot::of(held.node());
         let done = take_message(alloc, &mut held, peers, arrival);
         let after = Snapshot::of(held.node());
         let is_early = held.ask_at() < ask_at;
         self.standing.set(held.standing());
+        let called = held.called_since(prospect, true);
         drop(held);
-        self.changed.notify_all();
+        self.waiters.wake(called);
         if is_early {
             self.call_early(rt);
         }
@@ -345,14 +349,17 @@ impl<'a, R: Wait, D: Device, J: JournalDevice, I: NodeIdentity> SharedNode<'a, R
     {
         let mut held = self.held.try_lock()?;
         let Asked { due, wait } = held.ask(now);
+        let prospect = held.prospect();
         let before = Snapshot::of(held.node());
         let (done, beat) = act(alloc, &mut held, peers, due);
         let after = Snapshot::of(held.node());
         held.note(now);
         let pulse = held.pulse();
         self.standing.set(held.standing());
+        // With each beat those who wait look again, whatever has come.
+        let called = held.called_since(prospect, false);
         drop(held);
-        self.changed.notify_all();
+        self.waiters.wake(called);
         let moved = Moved { before, after };
         Some(Ticked {
             pulse,
@@ -375,11 +382,15 @@ impl<'a, R: Wait, D: Device, J: JournalDevice, I: NodeIdentity> SharedNode<'a, R
     ) -> (Ended, Snapshot<Node<D, J>>)
         ensures { SettlesAs I.own result.1.value request.client request.number (ended_view result.0) }
     {
-        let held = self.changed.wait_while(rt, self.held.lock(rt), |held| {
+        let mut held = self.held.lock(rt);
+        held.waiting = held.waiting.saturating_add(1);
+        let waiters = self.waiters.of(request.client, request.number);
+        let mut held = waiters.wait_while(rt, held, |held| {
             held.is_awaited(&request)
                 && !has_left.load(Ordering::SeqCst)
                 && self.standing.has_majority()
         });
+        held.waiting = held.waiting.saturating_sub(1);
         let node = held.node();
         let ended = ended_at(alloc, node, request.client, request.number);
         (ended, Snapshot::of(node))
@@ -388,7 +399,7 @@ impl<'a, R: Wait, D: Device, J: JournalDevice, I: NodeIdentity> SharedNode<'a, R
     /// Has those who wait for an outcome look again whether their clients have left. It takes no lock: who begins to
     /// wait meanwhile looks after the next event, or when the clock is asked next.
     pub fn look_again(&self) {
-        self.changed.notify_all();
+        self.waiters.wake(Called::all());
     }
 
     /// The standing of the node after some event of the call or the last before it. It waits for nobody.
@@ -405,7 +416,7 @@ impl<'a, R: Wait, D: Device, J: JournalDevice, I: NodeIdentity> SharedNode<'a, R
     /// waits for nobody.
     pub fn set_majority(&self, has_majority: bool) {
         self.standing.set_majority(has_majority);
-        self.changed.notify_all();
+        self.waiters.wake(Called::all());
     }
 
     /// How many holds of the lock have ended. It waits for nobody.
@@ -441,7 +452,7 @@ impl<'a, R: Wait, D: Device, J: JournalDevice, I: NodeIdentity> SharedNode<'a, R
     /// Nobody waits any more: what is still to come counts as lost.
     pub fn stop(&self, rt: &R) {
         self.held.lock(rt).is_stopping = true;
-        self.changed.notify_all();
+        self.waiters.wake(Called::all());
         if let Some(inbox) = &self.inbox {
             inbox.stop(rt);
         }

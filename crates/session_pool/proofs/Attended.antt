@@ -11,6 +11,8 @@ use Rattle.client_link.specs.Served.{config_of}
 use Rattle.session_table.specs.Attending.{IsSame}
 use Rattle.session_pool.specs.Answering.{Answers, AnswersNext, AnswersInTurn, AnswersSome}
 use Rattle.session_pool.specs.Answering as turns
+use Rattle.session_pool.specs.Sittings.{HasUpdatedSome}
+use Rattle.session_pool.specs.Sittings as sittings
 use Rattle.session_table.specs.declared.pooled.PooledSession.{PooledSession}
 
 module _ {D T : Type 0} (allows : D → Exchange T → D → Type 0) (c : ConfigValue) where
@@ -50,6 +52,13 @@ module _ {D T : Type 0} (allows : D → Exchange T → D → Type 0) (shared : C
   pub some_under : (v w : ConversationValue) (d e : D) (most : ℕ) → AnswersSome allows (config_of shared m) v w d e most →
       AnswersSome allows (config_of shared n) v w d e most
   some_under v w d e most some = subst (λ (k : ℕ). AnswersSome allows (config_of shared k) v w d e most) same some
+
+-- Updates that followed one another, and further ones behind them.
+module _ {D T : Type 0} (allows : D → Exchange T → D → Type 0) (c : ConfigValue) where
+  pub updated_on : (d e f : D) → HasUpdatedSome allows c d e → HasUpdatedSome allows c e f → HasUpdatedSome allows c d f
+  updated_on d e f some sittings.none = some
+  updated_on d e f some (sittings.one_more session more answers) =
+      sittings.one_more session (updated_on _ _ _ some more) answers
 
 -- a fact for where a test fails, or holds
 pub on_false : {P : Type 0} (b : Bool) → b ≡ false → OnFalse b P → P

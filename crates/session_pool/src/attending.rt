@@ -17,7 +17,7 @@ use std::sync::Wait;
 use std::time::{Clock, Duration, Instant};
 
 /// How many octets are read at once, at most.
-const PIECE: usize = 8192;
+pub const PIECE: usize = 8192;
 
 /// How many messages of one session are answered before it goes to the back of the queue.
 const MESSAGES: usize = 16;
@@ -189,20 +189,34 @@ impl<'a, R: Wait + Clock, T: SessionObserver> SessionPool<'a, R, T> {
         self.overview.begin_wait()
     }
 
+    /// Waits for the next octets of a session from this moment on, and until when; whether they came soon is noted.
+    pub fn wait_for(
+        &self,
+        pooled: &mut PooledSession,
+        buffer: &mut [u8],
+        since: u64,
+    ) -> (ReadOutcome, u64)
+        ensures same { IsSame pooled.old pooled.new }
+        ensures heard { HasHeard None None (talk pooled.old) buffer.new (talk pooled.new) result.0 }
+    {
+        let heard = pooled.hear(buffer, self);
+        let now = self.micros();
+        pooled.is_quick = match heard {
+            ReadOutcome::Octets => now.saturating_sub(since) < SOON_HEARD,
+            ReadOutcome::Nothing | ReadOutcome::Ends(_) => false,
+        };
+        (heard, now)
+    }
+
     /// Waits for the next octets of a quick session.
     fn linger(&self, pooled: &mut PooledSession, buffer: &mut [u8], stay: &mut Stay) -> ReadOutcome
         ensures same { IsSame pooled.old pooled.new }
         ensures heard { HasHeard None None (talk pooled.old) buffer.new (talk pooled.new) result }
     {
         let since = self.micros();
-        let heard = pooled.hear(buffer, self);
+        let (heard, now) = self.wait_for(pooled, buffer, since);
         self.overview.end_wait();
-        let now = self.micros();
         stay.set_apart(since, now);
-        pooled.is_quick = match heard {
-            ReadOutcome::Octets => now.saturating_sub(since) < SOON_HEARD,
-            ReadOutcome::Nothing | ReadOutcome::Ends(_) => false,
-        };
         heard
     }
 

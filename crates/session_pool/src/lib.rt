@@ -28,7 +28,8 @@
 //! - *Updates* have threads of their own, each with a gate and a look that finds nothing (`NoReads`). The leader
 //!   watches the socket from when the update lines up to its answer. It tells the thread when the client has left, and
 //!   no thread makes the update of a client that left before its turn. One that has lined up for too long a seat
-//!   answers by 52 (`NoNode`).
+//!   answers by 52 (`NoNode`). A thread stays with a session whose updates come one soon after the other, as a seat
+//!   does, where no update of another session waits for a thread and one thread is left that doesn't wait so.
 //! - *Memory.* What a session holds is posted in a `Budget` that all share when its thread lays it down, and before a
 //!   large message is decoded (`memory`). Where all hold too much, the session that `session_turns` says is ended.
 //! - *Refused binds.* After three of them a bind waits for a second, at its place in the table and in no thread.

@@ -3,11 +3,15 @@ use session_table::Table;
 use session_turns::{After, Seen, follows};
 use std::sync::atomic::{AtomicBool, AtomicU64, AtomicUsize, Ordering};
 
+/// What a thread that updates and waits counts among those that wait: there are fewer seats.
+const STAY: usize = 65_536;
+
 /// What a seat that answers sees of the others.
 #[derive(Drop)]
 pub struct Overview {
-    /// Sessions that are ready; seats that wait for the next message of their session.
+    /// Sessions that are ready.
     queued: AtomicUsize,
+    /// How many seats wait for the next message of their session, and `STAY` for each thread that updates and waits so.
     lingering: AtomicUsize,
     /// How many seats may wait so: one is left to lead.
     most: usize,
@@ -57,7 +61,7 @@ impl Overview {
 
     /// A seat waits for the next message of its session, if it may; it says when that ends.
     pub fn begin_wait(&self) -> bool {
-        if self.lingering.fetch_add(1, Ordering::SeqCst) >= self.most {
+        if self.lingering.fetch_add(1, Ordering::SeqCst) % STAY >= self.most {
             self.end_wait();
             return false;
         }
@@ -67,5 +71,21 @@ impl Overview {
     /// It waits no more.
     pub fn end_wait(&self) {
         self.lingering.fetch_sub(1, Ordering::SeqCst);
+    }
+
+    /// One of so many threads that update waits for the next update of its session, if another is left; it says when
+    /// that ends.
+    pub fn begin_stay(&self, threads: usize) -> bool {
+        let waiting = self.lingering.fetch_add(STAY, Ordering::SeqCst) / STAY;
+        if waiting.saturating_add(1) >= threads {
+            self.end_stay();
+            return false;
+        }
+        true
+    }
+
+    /// It waits no more.
+    pub fn end_stay(&self) {
+        self.lingering.fetch_sub(STAY, Ordering::SeqCst);
     }
 }

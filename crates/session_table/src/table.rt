@@ -228,6 +228,16 @@ impl Table {
         Some(pooled)
     }
 
+    /// The next update of a session that this thread has waits in it too.
+    pub fn post(&mut self, thread: usize, pooled: &PooledSession)
+        ensures posts { posted self.new.updaters ≡ slice_set (posted self.old.updaters) thread
+            (Some (record { token = token_of pooled.now.place pooled.now.number; closed = pooled.now.closed })) }
+        ensures stays { tabled self.new.places ≡ tabled self.old.places }
+    {
+        let token = token_of(pooled.place, pooled.number);
+        self.updaters.post(thread, token, pooled.closed);
+    }
+
     /// No update waits in this thread any more.
     pub fn unpost(&mut self, thread: usize)
         ensures { posted self.new.updaters ≡ slice_set (posted self.old.updaters) thread None }
