@@ -194,9 +194,10 @@ module _ (m : Machine) (w : World OpValue) (i : ℕ) where
   -- What is shown of how far a process is.
   pub told_on : (shown : List MachineReply) (p : Process) (x : MachineReply) → StandsFor m w i (stage shown i) p →
       IsToldOf i p x
-      → MayHappen (arc_value m.schema) m.suffix m.count m.journaled shown (event.State i) x [] w × IsQuiet x
+      → MayHappen (arc_value m.schema) m.suffix m.cluster m.count m.journaled shown (event.State i) x [] w × IsQuiet x
   told_on shown (Up n f) x stands is =
-      subst (λ (y : MachineReply). MayHappen (arc_value m.schema) m.suffix m.count m.journaled shown (event.State i) y
+      subst (λ (y : MachineReply). MayHappen (arc_value m.schema) m.suffix m.cluster m.count m.journaled shown
+      (event.State i) y
       [] w × IsQuiet y) (sym is) (
         (refl, record { replica = n.replica; there = stands.1.replica; shown = far n stands.1 }),
         record {
@@ -280,7 +281,8 @@ module _ (m : Machine) (size : IsSize m.count) (w : World OpValue) (i : ℕ) (re
   -- What is shown of a client's request at a process.
   pub answered_on : (shown : List MachineReply) (client : Client) (number : ℕ) (p : Process) (x : MachineReply) →
       StandsFor m w i (stage shown i) p → IsAnswered i client number p x
-      → MayHappen (arc_value m.schema) m.suffix m.count m.journaled shown (event.Ask i client number) x [] w × IsQuiet x
+      → MayHappen (arc_value m.schema) m.suffix m.cluster m.count m.journaled shown (event.Ask i client number) x [] w
+      × IsQuiet x
   answered_on shown client number (Up n f) (reply.Outcome j o) stands is = (
     (
       is.0,

@@ -30,7 +30,7 @@ use Rattle.dir_machine.specs.Happening.{EndsInside, MayHappen, TakesEach}
 use Rattle.dir_machine.specs.Shown.{Stage, unborn, up, down, stopped, message_in, stage}
 use Rattle.dir_machine.specs.private.Givens.{AreAsked}
 use Rattle.dir_machine.specs.private.Processes.{EndedInside, IsEnded, IsGiven, MemoryNode, TellsIn, Took}
-use Rattle.dir_machine.specs.private.Running.{AreSent, AreUpTo, IsDown, IsKeptBy, IsUp, Laws, StandsFor}
+use Rattle.dir_machine.specs.private.Running.{AreFramed, AreSent, AreUpTo, IsDown, IsKeptBy, IsUp, Laws, StandsFor}
 use Rattle.dir_machine.specs.declared.events.Given.{Given}
 use Rattle.dir_machine.specs.declared.events.MachineEvent.TheVariants as event
 use Rattle.dir_machine.specs.declared.machine.Machine.{Machine}
@@ -59,7 +59,7 @@ MayBeGiven n before i gs _ h w = ⊥
 -- one event
 pub may_one : (m : Machine) (before : List MachineReply) (i : ℕ) (g : Given) (x : MachineReply)
     (h : List (WorldEvent OpValue)) (w : World OpValue) → MayBeGiven m.count before i (g ∷ []) x h w
-    → MayHappen (arc_value m.schema) m.suffix m.count m.journaled before (event.Give i g) x h w
+    → MayHappen (arc_value m.schema) m.suffix m.cluster m.count m.journaled before (event.Give i g) x h w
 may_one m before i g reply.Nothing h w may = (may.0, inl (inr may.1))
 may_one m before i g (reply.Handled j outs behind) h w may = may
 may_one m before i g (reply.Refused j e) h w may = may
@@ -69,7 +69,7 @@ may_one m before i g _ h w may = absurd may
 -- a batch
 pub may_all : (m : Machine) (before : List MachineReply) (i : ℕ) (gs : Vec Given Global) (x : MachineReply)
     (h : List (WorldEvent OpValue)) (w : World OpValue) → MayBeGiven m.count before i gs.items x h w
-    → MayHappen (arc_value m.schema) m.suffix m.count m.journaled before (event.GiveAll i gs) x h w
+    → MayHappen (arc_value m.schema) m.suffix m.cluster m.count m.journaled before (event.GiveAll i gs) x h w
 may_all m before i gs reply.Nothing h w may = (may.0, inl (inr may.1))
 may_all m before i gs (reply.Handled j outs behind) h w may = may
 may_all m before i gs (reply.Refused j e) h w may = may
@@ -108,13 +108,16 @@ pub stage_own : (i j : ℕ) (t s : Stage) → j ≡ i → cond (j == i) t s ≡ 
 stage_own i j t s is = ap (λ b. cond b t s) (eq-eqb j i is)
 
 module _ (laws : Laws) (m : Machine) (size : IsSize m.count) (w : World OpValue) (i : ℕ) (lt : i < m.count)
-    (shown : List MachineReply) (reached : IsReached m.count w) (sent : AreSent shown w) where
+    (shown : List MachineReply) (reached : IsReached m.count w) (framed : AreFramed m.cluster shown)
+    (sent : AreSent shown w) where
   -- a node that took events
   took : (gs : List Given) (es : List (Event OpValue)) (old new : MemoryNode)
-      (outs : List (Result (Outputs OpValue) AllocError)) (behind : Bool) → AreAsked shown i gs es → IsUp m w i old
+      (outs : List (Result (Outputs OpValue) AllocError)) (behind : Bool) → AreAsked m.cluster shown i gs es →
+      IsUp m w i old
       → Took es old new outs behind → Ran m.count i shown gs outs w old.replica new.replica
   took gs es old new outs behind asked u t =
-      ran m.count i size lt shown gs es outs w old.replica new.replica reached sent asked u.replica u.stored
+      ran laws.frames m.cluster m.count i size lt shown framed gs es outs w old.replica new.replica reached sent asked
+      u.replica u.stored
       (subst (λ (k : ℕ). MakesSteps m.count k old.replica es outs new.replica) u.index
       (subst (λ (k : ℕ). MakesSteps k old.index old.replica es outs new.replica) u.count t.steps))
 
@@ -195,7 +198,8 @@ module _ (laws : Laws) (m : Machine) (size : IsSize m.count) (w : World OpValue)
                 stage_own i j (stopped (stage shown i)) (stage shown i) own_is ∙ ap stopped was,
                 ends_down (run m.count r.happened w) s pair left (head old) r.replica r.stored
                     (ap (λ (c : ℕ). found c left.image.items) (sym u.cluster) ∙ found_is)
-                    (λ x h. subst (λ (k : ℕ). x ≤ k) (sym restarts) (u.nonces x (ap (λ l. has_used x l) (sym r.nonces) ∙ h)))
+                    (λ x h. subst (λ (k : ℕ). x ≤ k) (sym restarts) (u.nonces x (ap (λ l. has_used x l) (sym r.nonces)
+                    ∙ h)))
                     placed u.started tells alone journaled active,
               );
               sent = λ part at y h. absurd (cc);
@@ -204,7 +208,7 @@ module _ (laws : Laws) (m : Machine) (size : IsSize m.count) (w : World OpValue)
 
   -- It ended inside a call: before what it was given, or after some first of that.
   ended_inside : (gs : List Given) (es : List (Event OpValue)) (old : MemoryNode) (left : Left) (j : ℕ)
-      (e : NodeError) → j ≡ i → e ≢ NoMemory → stage shown i ≡ up → IsUp m w i old → AreAsked shown i gs es →
+      (e : NodeError) → j ≡ i → e ≢ NoMemory → stage shown i ≡ up → IsUp m w i old → AreAsked m.cluster shown i gs es →
       EndedInside es old left
       → Acted m w i shown (reply.Stopped j e) (Down left) (λ h. MayBeGiven m.count shown i gs (reply.Stopped j e) h w)
   ended_inside gs es old left j e own_is cause was u asked ended = go left.journal refl ended.pair
@@ -214,7 +218,8 @@ module _ (laws : Laws) (m : Machine) (size : IsSize m.count) (w : World OpValue)
           h w)
 
       ran_is : RanSome m.count i shown gs w ended.replica
-      ran_is = some_ran m.count i lt shown size gs es w old.replica ended.replica sent asked u.replica u.stored
+      ran_is = some_ran m.count i lt shown laws.frames m.cluster framed size gs es w old.replica ended.replica sent
+          asked u.replica u.stored
           (subst (λ (k : ℕ). MakesSome m.count k old.replica es ended.replica) u.index
           (subst (λ (k : ℕ). MakesSome k old.index old.replica es ended.replica) u.count ended.steps))
 
@@ -252,7 +257,7 @@ module _ (laws : Laws) (m : Machine) (size : IsSize m.count) (w : World OpValue)
 
   -- Replica i is given events.
   pub given_on : (gs : List Given) (es : List (Event OpValue)) (old new : Process) (x : MachineReply) →
-      AreAsked shown i gs es → StandsFor m w i (stage shown i) old → IsGiven i es old new x
+      AreAsked m.cluster shown i gs es → StandsFor m w i (stage shown i) old → IsGiven i es old new x
       → Acted m w i shown x new (λ h. MayBeGiven m.count shown i gs x h w)
   given_on gs es (Up old f) (Up new g) (reply.Handled j outs behind) asked stands is =
       go (took gs es old new outs.items behind asked stands.1 is.1)

@@ -24,7 +24,7 @@ use Rattle.vr_state.specs.Step.{step}
 use Rattle.vr_state.specs.declared.event.Event.{Event}
 use Rattle.vr_state.specs.declared.message.Outputs.{Outputs}
 use Rattle.dir_machine.proofs.Journals.{IsLeftWith, left_some, left_tells, log_now, taken_some}
-use Rattle.dir_machine.proofs.Starts.{left_now, placed_now}
+use Rattle.dir_machine.proofs.Opened.{left_now, placed_now}
 use Rattle.dir_machine.specs.private.Processes.{EndedInside, HeldPlaced, IsGiven, IsLeftOf, IsStopped, KeepsIt, LogsIt, MemoryNode, TellsIn, Took}
 use Rattle.dir_machine.specs.declared.events.Fates.{Fates}
 use Rattle.dir_machine.specs.declared.process.Left.{Left}

@@ -1,12 +1,17 @@
 pub mod Worlds
 pub mod Shown
 pub mod Turns
+pub mod Gathered
+pub mod Places
+pub mod Absent
+pub mod Framed
 pub mod Taking
 pub mod Journals
 pub mod Returns
 pub mod Processes
 pub mod Gives
 pub mod Starts
+pub mod Opened
 pub mod Handled
 pub mod Asks
 pub mod Looks

@@ -76,7 +76,8 @@ module _ (m : Machine) (size : IsSize m.count) (w : World OpValue) (i : ℕ) (re
   -- What is shown of a search at a process.
   pub searched_on : (shown : List MachineReply) (named : ℕ) (q : SearchRequest) (p : Process) (x : MachineReply) →
       StandsFor m w i (stage shown i) p → IsSearched i named (search_view q) p x
-      → MayHappen (arc_value m.schema) m.suffix m.count m.journaled shown (event.Search i named q) x [] w × IsQuiet x
+      → MayHappen (arc_value m.schema) m.suffix m.cluster m.count m.journaled shown (event.Search i named q) x [] w
+      × IsQuiet x
   searched_on shown named q (Up n f) (reply.Found j number a) stands is = (
     (is.0, refl, found_in n stands.1 named number (λ d. answer d (search_view q)) (answer_view a) is.1),
     record {
@@ -103,7 +104,8 @@ module _ (m : Machine) (size : IsSize m.count) (w : World OpValue) (i : ℕ) (re
   -- What is shown of a compare.
   pub compared_on : (shown : List MachineReply) (named : ℕ) (q : CompareRequest) (p : Process) (x : MachineReply) →
       StandsFor m w i (stage shown i) p → IsCompared i named (compare_view q) p x
-      → MayHappen (arc_value m.schema) m.suffix m.count m.journaled shown (event.Compare i named q) x [] w × IsQuiet x
+      → MayHappen (arc_value m.schema) m.suffix m.cluster m.count m.journaled shown (event.Compare i named q) x [] w
+      × IsQuiet x
   compared_on shown named q (Up n f) (reply.Compared j number r) stands is = (
     (is.0, refl, found_in n stands.1 named number (λ d. compared d (compare_view q)) (reply_view r) is.1),
     record {

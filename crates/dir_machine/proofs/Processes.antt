@@ -198,13 +198,14 @@ stands_still m w shown x processes stands quiet = record {
 -- One event more was played.
 pub played_on : (m : Machine) (es : List MachineEvent) (before after : List Process) (shown : List MachineReply)
     (e : MachineEvent) (x : MachineReply) (h : List (WorldEvent OpValue)) (p : IsPlayed m es before shown)
-    → MayHappen (arc_value m.schema) m.suffix m.count m.journaled shown e x h (run m.count (joined p.happened)
+    → MayHappen (arc_value m.schema) m.suffix m.cluster m.count m.journaled shown e x h (run m.count (joined p.happened)
     (start m.count)) → Stands m (run m.count h (run m.count (joined p.happened) (start m.count))) after
     (shown ++ x ∷ [])
     → IsPlayed m (es ++ e ∷ []) after (shown ++ x ∷ [])
 played_on m es before after shown e x h p may stands = record {
   happened = p.happened ++ h ∷ [];
-  in_turn = in_turn_more (arc_value m.schema) m.suffix m.count m.journaled [] es shown p.happened (start m.count) e x
+  in_turn = in_turn_more (arc_value m.schema) m.suffix m.cluster m.count m.journaled [] es shown p.happened
+      (start m.count) e x
       h p.in_turn may;
   stands = subst (λ (u : World OpValue). Stands m u after (shown ++ x ∷ []))
       (sym (ap (λ (l : List (WorldEvent OpValue)). run m.count l (start m.count)) (joined_more p.happened h)

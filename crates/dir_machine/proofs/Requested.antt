@@ -35,6 +35,8 @@ module _ (n : ℕ) (before : List MachineReply) (i j : ℕ) (e : LogEntry OpValu
       given.Request e ≡ g
   that_is (given.Request entry) w x is q = let same : e ≡ entry = cc (q ∙ is) in ap given.Request same
   that_is (given.Message place) w x is q = absurd (cc (q ∙ is.is))
+  that_is (given.Frames at heard) w x is q = absurd (cc (q ∙ is.is))
+  that_is (given.Heard places) w x is q = absurd (cc (q ∙ is.2.is))
   that_is given.Suspect w x is q = absurd (cc (q ∙ is))
   that_is given.Beat w x is q = absurd (cc (q ∙ is))
 
@@ -75,7 +77,8 @@ module _ (n : ℕ) (before : List MachineReply) (i j : ℕ) (e : LogEntry OpValu
       go (inr (inl q)) = absurd (cc q)
       go (inr (inr m)) = absurd m
 
-module _ (s : SchemaModel) (root : List RdnModel) (n : ℕ) (journaled : Bool) (j : ℕ) (e : LogEntry OpValue) where
+module _ (s : SchemaModel) (root : List RdnModel) (cluster n : ℕ) (journaled : Bool) (j : ℕ)
+    (e : LogEntry OpValue) where
   -- nothing happened
   none_given : (h : List (WorldEvent OpValue)) {A : Type 0} → h ≡ [] → In (Request j e) h → A
   none_given h is k = absurd (subst (In (Request j e)) is k)
@@ -102,7 +105,7 @@ module _ (s : SchemaModel) (root : List RdnModel) (n : ℕ) (journaled : Bool) (
 
   -- one event of the schedule
   may_given : (before : List MachineReply) (ev : MachineEvent) (x : MachineReply) (h : List (WorldEvent OpValue))
-      (w : World OpValue) → MayHappen s root n journaled before ev x h w → In (Request j e) h →
+      (w : World OpValue) → MayHappen s root cluster n journaled before ev x h w → In (Request j e) h →
       In (given.Request e) (given_at ev)
   may_given before (event.Give i g) (reply.Handled k outs behind) h w may m = each_given n before i j e (g ∷ [])
       outs.items h w may.1 m
@@ -117,6 +120,7 @@ module _ (s : SchemaModel) (root : List RdnModel) (n : ℕ) (journaled : Bool) (
   may_given before (event.GiveAll i gs) reply.Nothing h w may m = none_given h may.0 m
   may_given before (event.GiveAll i gs) (reply.Refused k f) h w may m = none_given h may.2 m
   may_given before (event.GiveAll i gs) _ h w may m = absurd may
+  may_given before (event.Write place sizes) x h w may m = none_given h may.0 m
   may_given before (event.Crash i fates) reply.Nothing h w may m = none_given h may.0 m
   may_given before (event.Crash i fates) (reply.Crashed k) h w may m = crash (subst (In (Request j e)) may.1 m)
     where
@@ -149,7 +153,8 @@ module _ (s : SchemaModel) (root : List RdnModel) (n : ℕ) (journaled : Bool) (
 
   -- A request of what happens at a schedule is given by it.
   pub turn_given : (before : List MachineReply) (es : List MachineEvent) (xs : List MachineReply)
-      (hs : List (List (WorldEvent OpValue))) (w : World OpValue) → HappenInTurn s root n journaled before es xs hs w →
+      (hs : List (List (WorldEvent OpValue))) (w : World OpValue) → HappenInTurn s root cluster n journaled before es xs
+      hs w →
       In (Request j e) (joined hs) → WasGiven es e
   turn_given before [] [] [] w t k = absurd k
   turn_given before (ev ∷ es) (x ∷ xs) (h ∷ hs) w t k = go (turn_given (before ++ x ∷ []) es xs hs (run n h w) t.1)

@@ -15,16 +15,19 @@ use Rattle.vr_state.specs.Words.{LogEntry}
 use Rattle.vr_state.specs.declared.event.Event.{Event}
 use Rattle.vr_state.specs.declared.message.Outputs.{Outputs}
 use Rattle.vr_state.specs.declared.message.Send.{Send}
+use Rattle.vr_wire.specs.PartLaws.{FramesGiveMessage}
 use Rattle.vr_world.specs.Law.{IsSize}
 use Rattle.vr_world.specs.World.{World, happens, made, run, sent_as}
 use Rattle.vr_world.specs.declared.events.WorldEvent.{WorldEvent}
 use Rattle.vr_world.specs.declared.events.WorldEvent.TheVariants.{Request, Deliver, Suspect, Beat}
 use Rattle.vr_world.specs.declared.words.Message.{Message}
+use Rattle.dir_machine.proofs.Gathered.{framed_sent, frames_heard}
+use Rattle.dir_machine.proofs.Places.{places_heard}
 use Rattle.dir_machine.proofs.Worlds.{IsLater, IsReached, beaten, heard, keeps_committed, later_refl, later_trans, made_later, posted_has, put_here, reached_more, requested, suspected}
-use Rattle.dir_machine.specs.Happening.{IsThat, TakesEach, TakesSome}
-use Rattle.dir_machine.specs.Shown.{message_by, message_in, message_of}
-use Rattle.dir_machine.specs.private.Givens.{AreAsked, IsAsked}
-use Rattle.dir_machine.specs.private.Running.{AreSent}
+use Rattle.dir_machine.specs.Happening.{IsDelivery, IsThat, TakesEach, TakesSome}
+use Rattle.dir_machine.specs.Shown.{message_at, message_by, message_framed, message_in, message_of}
+use Rattle.dir_machine.specs.private.Givens.{AreAsked, IsAsked, IsHeard}
+use Rattle.dir_machine.specs.private.Running.{AreFramed, AreSent}
 use Rattle.dir_machine.specs.declared.events.Given.{Given}
 use Rattle.dir_machine.specs.declared.events.Given.TheVariants as given
 use Rattle.dir_machine.specs.declared.replies.MachineReply.{MachineReply}
@@ -64,10 +67,28 @@ pub record IsEvent (n i : ℕ) (before : List MachineReply) (g : Given) (w : Wor
   pub that : IsThat before i g w happened
   pub is : happens n w happened ≡ made i d w
 
-module _ (n i : ℕ) (size : IsSize n) (lt : i < n) (before : List MachineReply) where
+-- a message that comes, as an event of the world
+record IsDelivered (n i : ℕ) (before : List MachineReply) (o : Option (Message OpValue)) (w : World OpValue)
+    (d : Outcome OpValue) : Type 0 where
+  happened : WorldEvent OpValue
+  that : IsDelivery before i o w happened
+  is : happens n w happened ≡ made i d w
+
+module _ (law : FramesGiveMessage) (cluster n i : ℕ) (size : IsSize n) (lt : i < n) (before : List MachineReply)
+    (framed : AreFramed cluster before) where
+  -- a message that was sent is delivered
+  heard_happens : (o : Option (Message OpValue)) (e : Event OpValue) (w : World OpValue) (r : State OpValue)
+      (h : IsHeard i o e) → (k : ℕ) × (sent_as k w.messages ≡ Some h.message) → w.replicas i ≡ Some r →
+      IsDelivered n i before o w (step n i r e)
+  heard_happens o e w r h k up = record {
+    happened = Deliver k.0;
+    that = record { number = k.0; message = h.message; shown = h.shown; to = h.to; sent = k.1; is = refl };
+    is = heard n i w r lt up k.0 h.message k.1 h.to ∙ ap (λ (y : Event OpValue). made i (step n i r y) w) (sym h.is);
+  }
+
   -- what a replica is given happens
   asked_happens : (g : Given) (e : Event OpValue) (w : World OpValue) (r : State OpValue) → AreSent before w →
-      IsAsked before i g e → w.replicas i ≡ Some r → IsEvent n i before g w (step n i r e)
+      IsAsked cluster before i g e → w.replicas i ≡ Some r → IsEvent n i before g w (step n i r e)
   asked_happens (given.Request entry) e w r sent is up = record {
     happened = Request i entry;
     that = refl;
@@ -87,13 +108,18 @@ module _ (n i : ℕ) (size : IsSize n) (lt : i < n) (before : List MachineReply)
         ∙ ap (λ (y : Event OpValue). made i (step n i r y) w) (sym is);
   }
   asked_happens (given.Message place) e w r sent is up =
-      let k = sent place is.message is.shown in
-      record {
-        happened = Deliver k.0;
-        that = record { number = k.0; message = is.message; shown = is.shown; to = is.to; sent = k.1; is = refl };
-        is = heard n i w r lt up k.0 is.message k.1 is.to ∙ ap (λ (y : Event OpValue). made i (step n i r y) w)
-            (sym is.is);
-      }
+      let x = heard_happens (message_at before place) e w r is (sent place is.message is.shown) up in
+      record { happened = x.happened; that = x.that; is = x.is }
+  asked_happens (given.Frames at octets) e w r sent is up =
+      let came = frames_heard law cluster before i at e framed is in
+      let x = heard_happens (message_framed before at) e w r came (framed_sent before w at came.message sent came.shown)
+      up in
+      record { happened = x.happened; that = x.that; is = x.is }
+  asked_happens (given.Heard places) e w r sent is up =
+      let came = places_heard law cluster before i places.items e framed is in
+      let x = heard_happens (message_framed before came.0) e w r came.2
+      (framed_sent before w came.0 came.2.message sent came.2.shown) up in
+      record { happened = x.happened; that = (came.0, came.1, x.that); is = x.is }
 
   -- a message among what was given out is one that was sent
   gave : (out : Outputs OpValue) (at : ℕ) (m : Message OpValue) (w u : World OpValue) (t : State OpValue) →
@@ -177,7 +203,7 @@ module _ (n i : ℕ) (size : IsSize n) (lt : i < n) (before : List MachineReply)
 
   -- All of them, one after another.
   pub ran : (gs : List Given) (es : List (Event OpValue)) (outs : List (Result (Outputs OpValue) AllocError))
-      (w : World OpValue) (r s : State OpValue) → IsReached n w → AreSent before w → AreAsked before i gs es
+      (w : World OpValue) (r s : State OpValue) → IsReached n w → AreSent before w → AreAsked cluster before i gs es
       → w.replicas i ≡ Some r → w.stored i ≡ r.view_number → MakesSteps n i r es outs s → Ran n i before gs outs w r s
   ran [] [] [] w r s reached sent asked up stored steps = record {
     happened = [];
@@ -286,16 +312,19 @@ module _ (n i : ℕ) (lt : i < n) (before : List MachineReply) where
       }
 
   -- Some first of them, one after another.
-  pub some_ran : IsSize n → (gs : List Given) (es : List (Event OpValue)) (w : World OpValue) (r s : State OpValue) →
-      AreSent before w → AreAsked before i gs es
+  pub some_ran : (law : FramesGiveMessage) (cluster : ℕ) → AreFramed cluster before → IsSize n →
+      (gs : List Given) (es : List (Event OpValue)) (w : World OpValue) (r s : State OpValue) →
+      AreSent before w → AreAsked cluster before i gs es
       → w.replicas i ≡ Some r → w.stored i ≡ r.view_number → MakesSome n i r es s → RanSome n i before gs w s
-  some_ran size [] [] w r s sent asked up stored made = ran_none [] w r s up stored made
-  some_ran size (g ∷ gs) (e ∷ es) w r s sent asked up stored (inl same) = ran_none (g ∷ gs) w r s up stored same
-  some_ran size (g ∷ gs) (e ∷ es) w r s sent asked up stored (inr (t, inl same, rest)) =
-      ran_others g gs w s (some_ran size gs es w r s sent asked.1 up stored
+  some_ran law cluster framed size [] [] w r s sent asked up stored made = ran_none [] w r s up stored made
+  some_ran law cluster framed size (g ∷ gs) (e ∷ es) w r s sent asked up stored (inl same) = ran_none
+      (g ∷ gs) w r s up stored same
+  some_ran law cluster framed size (g ∷ gs) (e ∷ es) w r s sent asked up stored (inr (t, inl same, rest)) =
+      ran_others g gs w s (some_ran law cluster framed size gs es w r s sent asked.1 up stored
       (subst (λ (x : State OpValue). MakesSome n i x es s) same rest))
-  some_ran size (g ∷ gs) (e ∷ es) w r s sent asked up stored (inr (t, inr is, rest)) =
-      ran_one g gs w s t (step n i r e) (asked_happens n i size lt before g e w r sent asked.0 up) is sent
-      (λ u a b c. some_ran size gs es u t s a asked.1 b c rest)
-  some_ran size [] (e ∷ es) w r s sent asked up stored made = absurd asked
-  some_ran size (g ∷ gs) [] w r s sent asked up stored made = absurd asked
+  some_ran law cluster framed size (g ∷ gs) (e ∷ es) w r s sent asked up stored (inr (t, inr is, rest)) =
+      ran_one g gs w s t (step n i r e) (asked_happens law cluster n i size lt before framed g e w r sent asked.0 up) is
+      sent
+      (λ u a b c. some_ran law cluster framed size gs es u t s a asked.1 b c rest)
+  some_ran law cluster framed size [] (e ∷ es) w r s sent asked up stored made = absurd asked
+  some_ran law cluster framed size (g ∷ gs) [] w r s sent asked up stored made = absurd asked

@@ -65,10 +65,11 @@ pub record WasGiven (schedule : List MachineEvent) (e : LogEntry OpValue) : Type
 
 -- There is one list of what happened in the world: the schedule gives it in turn, as what is shown says, and what is
 -- committed after it is one list, which journals keep. Each committed record is a request that the schedule gave.
-pub record IsWhole (s : SchemaModel) (root : List RdnModel) (n : ℕ) (journaled : Bool) (schedule : List MachineEvent)
+pub record IsWhole (s : SchemaModel) (root : List RdnModel) (cluster n : ℕ) (journaled : Bool)
+    (schedule : List MachineEvent)
     (shown : List MachineReply) : Type 0 where
   pub happened : List (List (WorldEvent OpValue))
-  pub in_turn : HappenInTurn s root n journaled [] schedule shown happened (start n)
+  pub in_turn : HappenInTurn s root cluster n journaled [] schedule shown happened (start n)
   pub committed : CommittedIsOneList n (joined happened)
   pub asked : (e : LogEntry OpValue) → In e (committed_after n (joined happened)) → WasGiven schedule e
   pub kept : journaled ≡ true → MajoritiesKeep n shown (joined happened)

@@ -1,6 +1,7 @@
 -- What is read from the replies that a machine has shown: where each process stands, and the messages that nodes gave
 -- out.
-use Rattle.std.specs.Prelude.{ℕ, ◌==◌, cond, List, [], ◌∷◌, Option, Some, None, Result, Ok, Err, slice_get}
+use Rattle.std.specs.Prelude.{ℕ, suc, ◌==◌, cond, List, [], ◌∷◌, Option, Some, None, Result, Ok, Err, Vec, slice_get}
+use Rattle.std.specs.Global.{Global}
 use Rattle.std.specs.declared.alloc.AllocError.{AllocError}
 use Rattle.dir_node.specs.Outcomes.{OutcomeValue, done, pending, stale, lost}
 use Rattle.state_machine.specs.directory_api.View.{reply_view}
@@ -8,11 +9,12 @@ use Rattle.state_machine.specs.dir_store.ldap_op.Values.{OpValue}
 use Rattle.vr_state.specs.declared.message.Outputs.{Outputs}
 use Rattle.vr_state.specs.declared.message.Send.{Send}
 use Rattle.vr_world.specs.declared.words.Message.{Message}
+use Rattle.dir_machine.specs.declared.events.FramePlace.{FramePlace}
 use Rattle.dir_machine.specs.declared.events.Place.{Place}
 use Rattle.dir_machine.specs.declared.replies.Became.{Became}
 use Rattle.dir_machine.specs.declared.replies.Became.TheVariants as became
 use Rattle.dir_machine.specs.declared.replies.MachineReply.{MachineReply}
-use Rattle.dir_machine.specs.declared.replies.MachineReply.TheVariants.{Handled, Stopped, Crashed, Started}
+use Rattle.dir_machine.specs.declared.replies.MachineReply.TheVariants.{Handled, Stopped, Crashed, Started, Written}
 
 -- Where the process of a replica stands: it was never up, it is up, or it ended and its device is kept.
 pub data Stage : Type 0 where
@@ -65,6 +67,40 @@ message_shown _ part at = None
 -- The message at a place among what was shown; none where nothing was given out there.
 abbrev pub message_at : List MachineReply → Place → Option (Message OpValue)
 message_at shown p = message_shown (slice_get shown p.event) p.part p.send
+
+-- The message whose frames a reply shows.
+abbrev pub message_written : List MachineReply → Option MachineReply → Option (Message OpValue)
+message_written shown (Some (Written place to frames)) = message_at shown place
+message_written shown _ = None
+
+-- The message whose frames were shown at an event; none where none were.
+abbrev pub message_framed : List MachineReply → ℕ → Option (Message OpValue)
+message_framed shown e = message_written shown (slice_get shown e)
+
+-- frames, as they are in memory
+abbrev pub octets_of : List (Vec ℕ Global) → List (List ℕ)
+octets_of [] = []
+octets_of (v ∷ vs) = v.items ∷ octets_of vs
+
+-- the octets of a frame, where there is one
+abbrev pub octets_in : Option (Vec ℕ Global) → Option (List ℕ)
+octets_in None = None
+octets_in (Some v) = Some v.items
+
+-- The frame of this index that a reply shows for replica i.
+abbrev pub frame_in : ℕ → Option MachineReply → ℕ → Option (List ℕ)
+frame_in i (Some (Written place to frames)) k = cond (to == i) (octets_in (slice_get frames.items k)) None
+frame_in i _ k = None
+
+-- the places of frames of an event, from this one on
+abbrev pub places_from : ℕ → ℕ → List (Vec ℕ Global) → List FramePlace
+places_from e k [] = []
+places_from e k (v ∷ vs) = record { event = e; frame = k } ∷ places_from e (suc k) vs
+
+-- The places of all frames that the reply to an event shows, in order.
+abbrev pub places_in : ℕ → Option MachineReply → List FramePlace
+places_in e (Some (Written place to frames)) = places_from e 0 frames.items
+places_in e _ = []
 
 -- what became of a request, in memory
 abbrev pub became_view : Became → OutcomeValue

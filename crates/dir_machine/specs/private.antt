@@ -3,3 +3,4 @@
 pub mod Givens
 pub mod Processes
 pub mod Running
+pub mod Hearing

@@ -4,6 +4,7 @@ use dir_node::{Client, LogEntry, Op};
 use dir_search::{CompareRequest, SearchRequest};
 use journal::{Fate as JournalFate, Fault as JournalFault};
 use view_store::{Fate, Fault};
+use vr_wire::FrameSizes;
 
 /// A message that a node gave out: at the event of this index of the schedule, in this part of it, at this place among
 /// its sends; each from 0. An event that isn't a batch has one part.
@@ -12,6 +13,14 @@ pub struct Place {
     pub event: u64,
     pub part: u64,
     pub send: u64,
+}
+
+/// A frame that an event wrote: the event's index in the schedule, and the frame's place among those of its message,
+/// each from 0.
+#[derive(Clone, Copy, Debug, PartialEq, Eq)]
+pub struct FramePlace {
+    pub event: u64,
+    pub frame: u64,
 }
 
 /// What becomes, as a process ends, of what it wrote on each of its devices and no sync settled.
@@ -39,6 +48,12 @@ pub enum Given {
     Request { entry: LogEntry<Op> },
     /// A message that some node gave out for this one.
     Message { place: Place },
+    /// The message whose frames the event of this index of the schedule wrote for this node. They come whole and in
+    /// order, on a connection that has heard these octets before, each taken for a frame.
+    Frames { event: u64, heard: Vec<Vec<u8>> },
+    /// Frames that events wrote for this node, one after the other on one connection since it began: in any order,
+    /// again, and between those of other messages. What comes of the last one is given.
+    Heard { frames: Vec<FramePlace> },
     /// Its timer says that the primary may have failed.
     Suspect,
     /// Its timer says that it is time to send again.
@@ -52,6 +67,12 @@ pub enum MachineEvent {
     Give {
         replica: u64,
         given: Given,
+    },
+    /// The message at a place is written as the frames that a process sends of it. Its sender's number for the message
+    /// is the index of this event.
+    Write {
+        place: Place,
+        sizes: FrameSizes,
     },
     /// A node that is up handles a batch of events.
     GiveAll {

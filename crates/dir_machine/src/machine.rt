@@ -57,8 +57,8 @@ impl Machine {
         // once. What a search or a compare finds is what it finds after some first of the updates that are committed by
         // then, no fewer than it named.
         ensures whole { IfOk result (λ shown. IsSize self.now.count
-            → IsWhole (arc_value self.now.schema) self.now.suffix self.now.count self.now.journaled schedule.items
-            shown.items) }
+            → IsWhole (arc_value self.now.schema) self.now.suffix self.now.cluster self.now.count self.now.journaled
+            schedule.items shown.items) }
     {
         let mut run = begin(alloc, self)?;
         for event in schedule {

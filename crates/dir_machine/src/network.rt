@@ -4,8 +4,9 @@ ghost use Rattle.dir_machine.specs.Shown.{message_at, message_of};
 ghost use Rattle.dir_machine.specs.private.Givens.{AreAskedOr, IsAskedOr};
 
 use crate::events::{Given, Place};
+use crate::hearing::{come_of_frames, come_of_places};
 use crate::replies::MachineReply;
-use dir_node::{Event, Op, Outputs, copy_message};
+use dir_node::{Cluster, Event, Op, Outputs, copy_message};
 use std::alloc::{AllocError, Global};
 use vr_world::words::Message;
 
@@ -33,7 +34,7 @@ fn copy_send(
 
 /// The message at a place, in memory of its own; none where nothing was given out there. Its only error is want of
 /// memory.
-fn copy_message_at(
+pub fn copy_message_at(
     alloc: Global,
     shown: &[MachineReply],
     place: Place,
@@ -62,20 +63,32 @@ fn copy_message_at(
     }
 }
 
-/// The event that a replica is given; none where it is a message that nobody gave out for it. Its only error is want of
-/// memory.
+/// The event that a replica is given; none where it is a message that nobody gave out for it, or that no event wrote
+/// for it. Its only error is want of memory.
 pub fn asked(
     alloc: Global,
+    cluster: Cluster,
     shown: &[MachineReply],
     replica: u64,
     given: Given,
 ) -> Result<Option<Event<Op>>, AllocError>
-    ensures { IfOk result (λ o. IsAskedOr shown.now replica given o) }
+    ensures { IfOk result (λ o. IsAskedOr cluster shown.now replica given o) }
 {
     match given {
         Given::Request { entry } => Ok(Some(Event::Request { entry })),
         Given::Suspect => Ok(Some(Event::Suspect)),
         Given::Beat => Ok(Some(Event::Beat)),
+        Given::Frames { event, heard } => come_of_frames(
+            alloc,
+            cluster,
+            shown,
+            replica,
+            event,
+            heard.as_slice(),
+        ),
+        Given::Heard { frames } => {
+            come_of_places(alloc, cluster, shown, replica, frames.as_slice())
+        }
         Given::Message { place } => match copy_message_at(alloc, shown, place)? {
             None => Ok(None),
             Some(message) => {
@@ -97,15 +110,16 @@ pub fn asked(
 /// of memory.
 pub fn asked_all(
     alloc: Global,
+    cluster: Cluster,
     shown: &[MachineReply],
     replica: u64,
     given: Vec<Given>,
 ) -> Result<Option<Vec<Event<Op>>>, AllocError>
-    ensures { IfOk result (λ o. AreAskedOr shown.now replica given.items o) }
+    ensures { IfOk result (λ o. AreAskedOr cluster shown.now replica given.items o) }
 {
     let mut events = Vec::new(alloc);
     for one in given {
-        match asked(alloc, shown, replica, one)? {
+        match asked(alloc, cluster, shown, replica, one)? {
             Some(event) => events.push(event)?,
             None => return Ok(None),
         }

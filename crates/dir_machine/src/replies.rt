@@ -1,5 +1,6 @@
 //! What a machine shows of each event.
 
+use crate::events::Place;
 use dir_node::{NodeError, Op, Outputs, Reply, Standing};
 use dir_search::SearchAnswer;
 use std::alloc::AllocError;
@@ -27,6 +28,17 @@ pub enum MachineReply {
         given: Vec<Result<Outputs<Op>, AllocError>>,
         /// Whether committed records are left to be executed, for want of memory.
         behind: bool,
+    },
+    /// The frames of the message at a place, which is for this replica.
+    Written {
+        place: Place,
+        to: u64,
+        frames: Vec<Vec<u8>>,
+    },
+    /// The message at a place can't be sent: no frame has its sender's index, or a number or an update of it has no
+    /// octets, or one frame of it would have 2 ^ 32 octets or more.
+    Unwritten {
+        place: Place,
     },
     /// The node refused the event or the question for want of memory, and nothing changed; or the start was refused.
     Refused {
@@ -92,6 +104,12 @@ impl Drop for MachineReply {
                 given: _,
                 behind: _,
             } => {}
+            MachineReply::Written {
+                place: _,
+                to: _,
+                frames: _,
+            } => {}
+            MachineReply::Unwritten { place: _ } => {}
             MachineReply::Refused {
                 replica: _,
                 error: _,

@@ -6,7 +6,8 @@ ghost use Rattle.dir_machine.specs.private.Running.{AreNew, GoesOn, IsNothingSho
 
 use crate::asking::{ask, tell};
 use crate::crashing::crash;
-use crate::events::{Fates, Faults, Given, MachineEvent};
+use crate::events::{Fates, Faults, Given, MachineEvent, Place};
+use crate::framing::write;
 use crate::giving::{give_all, give_one};
 use crate::machine::Machine;
 use crate::network::{asked, asked_all};
@@ -20,6 +21,7 @@ use log_journal::one_is_told;
 use std::alloc::{AllocError, Global};
 use std::mem::replace;
 use vr_state::each_step;
+use vr_wire::{FrameSizes, frames_give_message};
 
 /// What a run has so far.
 #[derive(Drop)]
@@ -70,12 +72,13 @@ fn show_nothing(run: &mut Running) -> Result<(), AllocError>
     Ok(())
 }
 
-/// The laws of journals and of steps that a process which ends or starts again rests on.
+/// The laws of journals and of steps that a process which ends or starts again rests on, and of frames.
 fn laws()
     ensures { Laws }
 {
     each_step::<Op>();
     one_is_told();
+    frames_give_message();
 }
 
 /// A node that is up handles one event. Its only error is want of memory.
@@ -92,10 +95,10 @@ fn give(
     if machine.count <= replica {
         return show_nothing(run);
     }
-    match asked(alloc, run.shown.as_slice(), replica, given)? {
+    laws();
+    match asked(alloc, machine.cluster, run.shown.as_slice(), replica, given)? {
         None => show_nothing(run),
         Some(event) => {
-            laws();
             let before = replace(&mut run.processes[replica as usize], no_process(alloc));
             let (after, reply) = give_one(alloc, before, replica, event)?;
             run.processes[replica as usize] = after;
@@ -119,10 +122,10 @@ fn give_batch(
     if machine.count <= replica {
         return show_nothing(run);
     }
-    match asked_all(alloc, run.shown.as_slice(), replica, given)? {
+    laws();
+    match asked_all(alloc, machine.cluster, run.shown.as_slice(), replica, given)? {
         None => show_nothing(run),
         Some(events) => {
-            laws();
             let before = replace(&mut run.processes[replica as usize], no_process(alloc));
             let (after, reply) = give_all(alloc, before, replica, events)?;
             run.processes[replica as usize] = after;
@@ -130,6 +133,21 @@ fn give_batch(
             Ok(())
         }
     }
+}
+
+/// A message is written as frames. Its only error is want of memory.
+fn write_one(
+    alloc: Global,
+    machine: &Machine,
+    run: &mut Running,
+    place: Place,
+    sizes: FrameSizes,
+) -> Result<(), AllocError>
+    ensures { OnOk result (GoesOn machine.now (kinds.Write place sizes) run.old run.new) }
+{
+    let reply = write(alloc, machine.cluster, run.shown.as_slice(), place, sizes)?;
+    run.shown.push(reply)?;
+    Ok(())
 }
 
 /// A process ends. Its only error is want of memory.
@@ -282,6 +300,7 @@ pub fn take_event(
     match event {
         MachineEvent::Give { replica, given } => give(alloc, machine, run, replica, given),
         MachineEvent::GiveAll { replica, given } => give_batch(alloc, machine, run, replica, given),
+        MachineEvent::Write { place, sizes } => write_one(alloc, machine, run, place, sizes),
         MachineEvent::Crash { replica, fates } => end(alloc, machine, run, replica, fates),
         MachineEvent::Start {
             replica,

@@ -13,13 +13,15 @@ use Rattle.vr_state.specs.Lists.{IsPrefix}
 use Rattle.vr_state.specs.State.{first, is_recovering}
 use Rattle.vr_state.specs.StepLaw.{LastIsKept, LatestIsOfClient}
 use Rattle.vr_state.specs.declared.message.Change.{Change}
+use Rattle.vr_wire.specs.PartLaws.{FramesGiveMessage}
+use Rattle.vr_wire.specs.Parts.{TellMessage}
 use Rattle.vr_world.specs.Law.{IsSize}
 use Rattle.vr_world.specs.World.{World, after, has_used, sent_as, start}
 use Rattle.vr_world.specs.declared.events.WorldEvent.{WorldEvent}
 use Rattle.vr_world.specs.declared.words.Message.{Message}
 use Rattle.dir_machine.specs.Happening.{HappenInTurn}
 use Rattle.dir_machine.specs.Headline.{joined}
-use Rattle.dir_machine.specs.Shown.{Stage, unborn, up, down, message_at, stage}
+use Rattle.dir_machine.specs.Shown.{Stage, unborn, up, down, message_at, octets_of, stage}
 use Rattle.dir_machine.specs.declared.events.MachineEvent.{MachineEvent}
 use Rattle.dir_machine.specs.declared.events.Place.{Place}
 use Rattle.dir_machine.specs.declared.machine.Machine.{Machine}
@@ -32,8 +34,9 @@ use Rattle.dir_machine.specs.declared.running.Running.{Running}
 use Rattle.dir_machine.specs.private.Processes.{IsNew, IsPlaced, KeepsIt, LogsIt, MemoryNode}
 
 -- Laws of the crates below: strings of a journal tell one thing; a replica that isn't normal after a step recovers if
--- it did before; a client table's place is that of the client's record.
+-- it did before; a client table's place is that of the client's record; the frames of a message give it.
 pub record Laws : Type 0 where
+  pub frames : FramesGiveMessage
   pub one : OneIsTold
   pub last : LastIsKept OpValue
   pub latest : LatestIsOfClient OpValue
@@ -111,6 +114,19 @@ abbrev pub AreSent : List MachineReply → World OpValue → Type 0
 AreSent shown w = (place : Place) (x : Message OpValue) → message_at shown place ≡ Some x → (number : ℕ)
     × (sent_as number w.messages ≡ Some x)
 
+-- The message at a place is told by frames of this number, for its receiver.
+pub record IsFramed (cluster number to : ℕ) (o : Option (Message OpValue)) (frames : List (List ℕ)) : Type 0 where
+  pub message : Message OpValue
+  pub there : o ≡ Some message
+  pub receiver : to ≡ message.to
+  pub tell : TellMessage cluster message.from number message.body frames
+
+-- So are all messages whose frames were shown.
+abbrev pub AreFramed : ℕ → List MachineReply → Type 0
+AreFramed cluster shown = (e : ℕ) (place : Place) (to : ℕ) (frames : Vec (Vec ℕ Global) Global) →
+    slice_get shown e ≡ Some (reply.Written place to frames) → IsFramed cluster e to (message_at shown place)
+    (octets_of frames.items)
+
 -- So many processes, none of which was ever up.
 pub record AreNew (count : ℕ) (processes : List Process) : Type 0 where
   pub counted : length processes ≡ count
@@ -127,7 +143,8 @@ pub record Stands (m : Machine) (w : World OpValue) (processes : List Process) (
 pub record IsPlayed (m : Machine) (played : List MachineEvent) (processes : List Process)
     (shown : List MachineReply) : Type 0 where
   pub happened : List (List (WorldEvent OpValue))
-  pub in_turn : HappenInTurn (arc_value m.schema) m.suffix m.count m.journaled [] played shown happened (start m.count)
+  pub in_turn : HappenInTurn (arc_value m.schema) m.suffix m.cluster m.count m.journaled [] played shown happened
+      (start m.count)
   pub stands : Stands m (after m.count (joined happened)) processes shown
 
 -- A run goes on by one event.

@@ -8,8 +8,7 @@ use Rattle.dir_machine.proofs.Played.{away_on, give_on, missing_on}
 use Rattle.dir_machine.specs.declared.events.MachineEvent.TheVariants as kinds
 use Rattle.dir_machine.specs.declared.process.Process.{Process}
 use Rattle.dir_machine.specs.declared.replies.MachineReply.{MachineReply}
-use Rattle.dir_machine.specs.Happening.{IsMissing}
-use Rattle.dir_machine.specs.private.Givens.{IsAsked, IsAskedOr}
+use Rattle.dir_machine.specs.private.Givens.{IsAbsent, IsAsked, IsAskedOr}
 use Rattle.dir_machine.proofs.running.give.Goals as goal
 
 pub returns-then-machine-replica : goal.returns-then-machine-replica
@@ -21,9 +20,11 @@ returns-then-machine-replica c =
 pub returns-in-None : goal.returns-in-None
 returns-in-None c =
     on_ok c.show_nothing-in-None.result (λ shown. missing_on c.args.machine.now c.args.run.now
-    c.show_nothing-in-None.new.run c.args.replica c.args.given
-    (subst (λ (l : List MachineReply). IsMissing l c.args.replica c.args.given) c.as_slice.ensures.value
-    (subst (λ (o : Option (Event OpValue)). IsAskedOr c.as_slice.result.now c.args.replica c.args.given o)
+    c.show_nothing-in-None.new.run c.laws.ensures.frames c.args.replica c.args.given
+    (subst (λ (l : List MachineReply). IsAbsent c.args.machine.now.cluster l c.args.replica c.args.given)
+    c.as_slice.ensures.value
+    (subst (λ (o : Option (Event OpValue)). IsAskedOr c.args.machine.now.cluster c.as_slice.result.now c.args.replica
+    c.args.given o)
     c.in-None.is c.in_ok-asked.ensures)) shown) c.show_nothing-in-None.ensures
 
 pub returns-in_ok-push-in-Some : goal.returns-in_ok-push-in-Some
@@ -40,7 +41,9 @@ returns-in_ok-push-in-Some c = give_on c.laws.ensures c.args.machine.now c.args.
       processes = refl;
       shown = c.in_ok-push-in-Some.ensures.items;
     })
-    (subst (λ (l : List MachineReply). IsAsked l c.args.replica c.args.given c.in-Some.event) c.as_slice.ensures.value
-    (subst (λ (o : Option (Event OpValue)). IsAskedOr c.as_slice.result.now c.args.replica c.args.given o)
+    (subst (λ (l : List MachineReply). IsAsked c.args.machine.now.cluster l c.args.replica c.args.given c.in-Some.event)
+    c.as_slice.ensures.value
+    (subst (λ (o : Option (Event OpValue)). IsAskedOr c.args.machine.now.cluster c.as_slice.result.now c.args.replica
+    c.args.given o)
     c.in-Some.is c.in_ok-asked.ensures))
     c.in_ok-after-in-Some.ensures

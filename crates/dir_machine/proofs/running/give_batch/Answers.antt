@@ -9,8 +9,7 @@ use Rattle.dir_machine.proofs.Played.{away_on, batch_on, one_missing_on}
 use Rattle.dir_machine.specs.declared.events.MachineEvent.TheVariants as kinds
 use Rattle.dir_machine.specs.declared.process.Process.{Process}
 use Rattle.dir_machine.specs.declared.replies.MachineReply.{MachineReply}
-use Rattle.dir_machine.specs.Happening.{IsOneMissing}
-use Rattle.dir_machine.specs.private.Givens.{AreAsked, AreAskedOr}
+use Rattle.dir_machine.specs.private.Givens.{AreAsked, AreAskedOr, IsOneAbsent}
 use Rattle.dir_machine.proofs.running.give_batch.Goals as goal
 
 pub returns-then-machine-replica : goal.returns-then-machine-replica
@@ -22,9 +21,11 @@ returns-then-machine-replica c =
 pub returns-in-None : goal.returns-in-None
 returns-in-None c =
     on_ok c.show_nothing-in-None.result (λ shown. one_missing_on c.args.machine.now c.args.run.now
-    c.show_nothing-in-None.new.run c.args.replica c.args.given
-    (subst (λ (l : List MachineReply). IsOneMissing l c.args.replica c.args.given.items) c.as_slice.ensures.value
-    (subst (λ (o : Option (Vec (Event OpValue) Global)). AreAskedOr c.as_slice.result.now c.args.replica
+    c.show_nothing-in-None.new.run c.laws.ensures.frames c.args.replica c.args.given
+    (subst (λ (l : List MachineReply). IsOneAbsent c.args.machine.now.cluster l c.args.replica c.args.given.items)
+    c.as_slice.ensures.value
+    (subst (λ (o : Option (Vec (Event OpValue) Global)). AreAskedOr c.args.machine.now.cluster c.as_slice.result.now
+    c.args.replica
     c.args.given.items o) c.in-None.is c.in_ok-asked_all.ensures)) shown) c.show_nothing-in-None.ensures
 
 pub returns-in_ok-push-in-Some : goal.returns-in_ok-push-in-Some
@@ -41,8 +42,10 @@ returns-in_ok-push-in-Some c = batch_on c.laws.ensures c.args.machine.now c.args
       processes = refl;
       shown = c.in_ok-push-in-Some.ensures.items;
     })
-    (subst (λ (l : List MachineReply). AreAsked l c.args.replica c.args.given.items c.in-Some.events.items)
+    (subst (λ (l : List MachineReply). AreAsked c.args.machine.now.cluster l c.args.replica c.args.given.items
+    c.in-Some.events.items)
     c.as_slice.ensures.value
-    (subst (λ (o : Option (Vec (Event OpValue) Global)). AreAskedOr c.as_slice.result.now c.args.replica
+    (subst (λ (o : Option (Vec (Event OpValue) Global)). AreAskedOr c.args.machine.now.cluster c.as_slice.result.now
+    c.args.replica
     c.args.given.items o) c.in-Some.is c.in_ok-asked_all.ensures))
     c.in_ok-after-in-Some.ensures

@@ -2,4 +2,9 @@
 use Rattle.dir_machine.proofs.running.laws.Goals as goal
 
 pub returns : goal.returns
-returns c = record { one = c.one_is_told.ensures; last = c.each_step.ensures.last; latest = c.each_step.ensures.latest }
+returns c = record {
+  frames = c.frames_give_message.ensures;
+  one = c.one_is_told.ensures;
+  last = c.each_step.ensures.last;
+  latest = c.each_step.ensures.latest;
+}

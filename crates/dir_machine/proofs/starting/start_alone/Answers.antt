@@ -1,6 +1,6 @@
--- What search doesn't prove of `start_alone`: what it returns, by lemmas of `Starts`.
+-- What search doesn't prove of `start_alone`: what it returns, by lemmas of `Opened`.
 use Rattle.std.proofs.Common.{refl}
-use Rattle.dir_machine.proofs.Starts.{alone_placed, alone_refused, alone_started}
+use Rattle.dir_machine.proofs.Opened.{alone_placed, alone_refused, alone_started}
 use Rattle.dir_machine.proofs.starting.start_alone.Goals as goal
 
 pub returns-in-Ok : goal.returns-in-Ok

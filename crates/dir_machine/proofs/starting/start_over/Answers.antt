@@ -1,8 +1,8 @@
--- What search doesn't prove of `start_over`: what it returns, by lemmas of `Starts`.
+-- What search doesn't prove of `start_over`: what it returns, by lemmas of `Opened`.
 use Rattle.std.proofs.Common.{refl}
 use Rattle.journal.specs.Frames.{recorded}
 use Rattle.journal.specs.Memory.{seen_after}
-use Rattle.dir_machine.proofs.Starts.{over_placed, over_refused, over_started}
+use Rattle.dir_machine.proofs.Opened.{over_placed, over_refused, over_started}
 use Rattle.dir_machine.proofs.starting.start_over.Goals as goal
 
 pub returns-in-Ok : goal.returns-in-Ok
