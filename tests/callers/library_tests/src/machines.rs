@@ -1,8 +1,8 @@
 //! Machines of three whole nodes: an update, the end of its primary, a view change without it, and its recovery; devices that fail inside a start or a step; reads;
-//! journals, over the end of all three at once and where their devices fail; and events that name nothing that is there.
+//! journals, over the end of all three at once and where their devices fail; messages as frames, whole and in parts; and events that name nothing that is there.
 use dir_machine::{
-    Became, Client, Cluster, CompareRequest, Fate, Fates, Fault, Faults, Given, Indexes,
-    JournalFate, JournalFault, LogEntry, Machine, MachineEvent, MachineReply, Name, Place,
+    Became, Client, Cluster, CompareRequest, Fate, Fates, Fault, Faults, FramePlace, FrameSizes,
+    Given, Indexes, JournalFate, JournalFault, LogEntry, Machine, MachineEvent, MachineReply, Name, Place,
     SearchRequest, Standing,
 };
 use filter_text::read_text;
@@ -53,6 +53,12 @@ enum Step {
     Request(u64, u64, &'static str),
     /// The send of this index that the event of this index gave out.
     Hear(u64, u64, u64),
+    /// That send is written as frames: the most octets of one, and of the message in a part.
+    Write(u64, u64, usize, usize),
+    /// The frames that the event of this index wrote, after these octets, in hex.
+    Frames(u64, u64, &'static str),
+    /// Frames of a connection, each by the index of the event that wrote it and its own.
+    Heard(u64, &'static [(u64, u64)]),
     Suspect(u64),
     Beat(u64),
     /// A beat and a suspicion at once.
@@ -228,6 +234,61 @@ const NOTED: &[(Step, &str)] = &[
     (Step::Ask(0, 1), "done 1 0"),
 ];
 
+/// The first part of some message of replica 0, in two: junk that a connection of cluster 9 gathers.
+const FIRST_PART: &str = "0000001a020000000000090d00000000000000000300000000000000020b";
+
+/// Messages that come as frames: one where they fit, and parts.
+const FRAMED: &[(Step, &str)] = &[
+    (Step::Start(0), "started 1"),
+    (Step::Start(1), "started 1"),
+    (Step::Start(2), "started 1"),
+    // 3: an update, for both others
+    (Step::Request(0, 1, ADD), "handled"),
+    (Step::Write(3, 0, 1000, 1000), "written 1 1"),
+    (Step::Write(3, 1, 0, 50), "written 2 3"),
+    (Step::Write(3, 2, 1000, 1000), "nothing"),
+    (Step::Write(4, 0, 1000, 1000), "nothing"),
+    // 8: frames of another replica, of an event that wrote none, and of one that isn't there
+    (Step::Frames(2, 4, ""), "nothing"),
+    (Step::Frames(1, 3, ""), "nothing"),
+    (Step::Frames(1, 99, ""), "nothing"),
+    // 11: its frame, after octets that are none; and its parts, after the first of another message
+    (Step::Frames(1, 4, "00ff"), "handled"),
+    (Step::Frames(2, 5, FIRST_PART), "handled"),
+    (Step::State(2), "backup 0 1 0"),
+    // 14: the acknowledgements, one of them as frames
+    (Step::Write(11, 0, 1000, 1000), "written 0 1"),
+    (Step::Frames(0, 14, FIRST_PART), "handled"),
+    (Step::Frames(0, 14, ""), "handled"),
+    (Step::Ask(0, 1), "done 1 0"),
+];
+
+/// Frames of two messages in any order, again and between one another.
+const MIXED: &[(Step, &str)] = &[
+    (Step::Start(0), "started 1"),
+    (Step::Start(1), "started 1"),
+    (Step::Start(2), "started 1"),
+    // 3: two updates, each in parts
+    (Step::Request(0, 1, ADD), "handled"),
+    (Step::Write(3, 0, 0, 50), "written 1 3"),
+    (Step::Write(3, 1, 0, 50), "written 2 3"),
+    (Step::Request(0, 2, DELETE), "handled"),
+    (Step::Write(6, 0, 0, 1000), "written 1 1"),
+    // 8: not all of it, not in one run, of another replica, one that isn't there, and none
+    (Step::Heard(1, &[(4, 0), (4, 1)]), "nothing"),
+    (Step::Heard(1, &[(4, 1), (4, 2)]), "nothing"),
+    (Step::Heard(1, &[(4, 0), (7, 0), (4, 1), (4, 2)]), "nothing"),
+    (Step::Heard(1, &[(4, 0), (5, 1), (4, 2)]), "nothing"),
+    (Step::Heard(1, &[(4, 0), (4, 3)]), "nothing"),
+    (Step::Heard(1, &[]), "nothing"),
+    (Step::State(1), "backup 0 0 0"),
+    // 15: all of it, after others
+    (Step::Heard(1, &[(4, 2), (7, 0), (4, 0), (4, 0), (4, 1), (4, 2)]), "handled"),
+    (Step::State(1), "backup 0 1 0"),
+    (Step::Heard(1, &[(4, 0), (7, 0)]), "handled"),
+    (Step::State(1), "backup 0 2 0"),
+];
+
 /// An event of a machine.
 fn event_of(alloc: Global, step: Step) -> Result<MachineEvent, Fail> {
     Ok(match step {
@@ -281,6 +342,35 @@ fn event_of(alloc: Global, step: Step) -> Result<MachineEvent, Fail> {
                 },
             },
         },
+        Step::Write(event, send, most, part_size) => MachineEvent::Write {
+            place: Place {
+                event,
+                part: 0,
+                send,
+            },
+            sizes: FrameSizes { most, part_size },
+        },
+        Step::Frames(replica, event, text) => {
+            let mut heard = Vec::new(alloc);
+            heard.push(hex::decode(alloc, text)?)?;
+            MachineEvent::Give {
+                replica,
+                given: Given::Frames { event, heard },
+            }
+        }
+        Step::Heard(replica, places) => {
+            let mut frames = Vec::new(alloc);
+            for (event, frame) in places {
+                frames.push(FramePlace {
+                    event: *event,
+                    frame: *frame,
+                })?;
+            }
+            MachineEvent::Give {
+                replica,
+                given: Given::Heard { frames },
+            }
+        }
         Step::Suspect(replica) => MachineEvent::Give {
             replica,
             given: Given::Suspect,
@@ -383,6 +473,15 @@ fn words_of(alloc: Global, reply: &MachineReply) -> Result<String, Fail> {
                 String::from_str(alloc, "handled handled")?
             }
         }
+        MachineReply::Written {
+            place: _,
+            to,
+            frames,
+        } => {
+            let count = frames.len();
+            format!(in alloc; "written {to} {count}")?
+        }
+        MachineReply::Unwritten { place: _ } => String::from_str(alloc, "unwritten")?,
         MachineReply::Refused { replica: _, error } => format!(in alloc; "refused {error}")?,
         MachineReply::Stopped { replica: _, error } => format!(in alloc; "stopped {error}")?,
         MachineReply::Crashed { replica: _ } => String::from_str(alloc, "crashed")?,
@@ -483,4 +582,16 @@ fn all_end_at_once(rt: HostRuntime) -> Result<(), Fail> {
 #[test]
 fn journals_stop(rt: HostRuntime) -> Result<(), Fail> {
     play(&rt, rt.alloc(), true, NOTED)
+}
+
+/// Three nodes whose messages come as frames.
+#[test]
+fn messages_come_as_frames(rt: HostRuntime) -> Result<(), Fail> {
+    play(&rt, rt.alloc(), false, FRAMED)
+}
+
+/// A node that hears frames of two messages.
+#[test]
+fn frames_are_mixed(rt: HostRuntime) -> Result<(), Fail> {
+    play(&rt, rt.alloc(), false, MIXED)
 }

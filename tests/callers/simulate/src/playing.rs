@@ -74,6 +74,7 @@ fn take(wish: &mut Wish, word: &str, next: &str) -> Option<()> {
 struct Totals {
     steps: u64,
     messages: u64,
+    parts: u64,
     searches: u64,
     updates: u64,
     open: u64,
@@ -112,6 +113,7 @@ fn run<R: Wait + Eprint>(
     let counts = world.counts;
     totals.steps += counts.steps;
     totals.messages += counts.messages;
+    totals.parts += counts.parts;
     totals.searches += counts.searches;
     totals.updates += counts.updates;
     totals.open += counts.open;
@@ -135,6 +137,7 @@ pub fn play<R: Wait + Print + Eprint>(rt: &R, alloc: Global, wish: &Wish) -> io:
     let mut totals = Totals {
         steps: 0,
         messages: 0,
+        parts: 0,
         searches: 0,
         updates: 0,
         open: 0,
@@ -160,8 +163,8 @@ pub fn play<R: Wait + Print + Eprint>(rt: &R, alloc: Global, wish: &Wish) -> io:
         }
     }
     println!(rt;
-        "{} steps, {} messages, {} updates and {} reads answered, {} left open, {} committed",
-        totals.steps, totals.messages, totals.updates, totals.searches, totals.open, totals.committed)?;
+        "{} steps, {} messages, {} parts before their last, {} updates and {} reads answered, {} left open, {} committed",
+        totals.steps, totals.messages, totals.parts, totals.updates, totals.searches, totals.open, totals.committed)?;
     println!(rt;
         "{} crashes, {} power cuts of all, {} failed disks, {} hung disks, {} refused growths, {} views entered",
         totals.crashes, totals.power_cuts, totals.device_failures, totals.hangs, totals.refused_growths, totals.views)?;

@@ -32,6 +32,9 @@ pub const SUSPECT: u64 = 1000;
 
 const BEAT: u64 = 250;
 
+/// The longest part of a message that is cut in parts, and the longest frame of one that isn't.
+const LONGEST: u64 = 65_536;
+
 /// How many messages the network keeps.
 const FLIGHTS: usize = 400;
 
@@ -55,6 +58,8 @@ pub struct Counts {
     pub refused_growths: u64,
     pub views: u64,
     pub messages: u64,
+    /// How many parts came of messages that were cut.
+    pub parts: u64,
     pub searches: u64,
     pub updates: u64,
     pub open: u64,
@@ -138,6 +143,7 @@ impl<'a, R: Wait + Eprint> World<'a, R> {
                 refused_growths: 0,
                 views: 0,
                 messages: 0,
+                parts: 0,
                 searches: 0,
                 updates: 0,
                 open: 0,
@@ -458,6 +464,20 @@ impl<'a, R: Wait + Eprint> World<'a, R> {
         self.arrive(flight)
     }
 
+    /// How large the frames of a message are: it has one, or parts of any size from one octet on.
+    fn frame_sizes(&mut self) -> FrameSizes {
+        if self.chance.hits(600) {
+            return FrameSizes {
+                most: 1_000_000,
+                part_size: 1_000_000,
+            };
+        }
+        FrameSizes {
+            most: self.chance.spread(1, LONGEST) as usize,
+            part_size: self.chance.spread(1, LONGEST) as usize,
+        }
+    }
+
     /// The frames of a message come at a machine, all or a first part of them.
     fn arrive(&mut self, flight: Flight) -> Result<(), AllocError> {
         let Flight { from, to, message } = flight;
@@ -465,18 +485,7 @@ impl<'a, R: Wait + Eprint> World<'a, R> {
         let Some(cluster) = Cluster::new(9) else {
             return Err(AllocError);
         };
-        let part = self.chance.between(16, 200) as usize;
-        let sizes = if self.chance.hits(300) {
-            FrameSizes {
-                most: part,
-                part_size: part,
-            }
-        } else {
-            FrameSizes {
-                most: 1_000_000,
-                part_size: 1_000_000,
-            }
-        };
+        let sizes = self.frame_sizes();
         let Ok(mut frames) = Frames::of(self.alloc, cluster, from as u8, self.frame_number, sizes, &message) else {
             return Err(AllocError);
         };
@@ -495,6 +504,7 @@ impl<'a, R: Wait + Eprint> World<'a, R> {
                     })?;
                 }
                 Ok(_) => {
+                    self.counts.parts += 1;
                     if breaks {
                         return Ok(());
                     }
