@@ -2,3 +2,4 @@ pub mod Asking
 pub mod Samples
 pub mod Metrics
 pub mod Pages
+pub mod private

@@ -5,7 +5,8 @@ use Rattle.status_page.specs.declared.figures.ClientCounts.{ClientCounts}
 use Rattle.status_page.specs.declared.figures.Counts.{Counts}
 use Rattle.status_page.specs.declared.figures.PeerCounts.{PeerCounts}
 use Rattle.status_page.specs.declared.figures.ProcessCounts.{ProcessCounts}
-use Rattle.status_page.specs.Samples.{figure, sample, optional_sample, optional_scaled_sample, labelled_figure, histogram_samples}
+use Rattle.status_page.specs.Samples.{figure, sample, optional_sample, optional_scaled_sample, labelled_figure}
+use Rattle.status_page.specs.Samples.{histogram_samples}
 
 -- the searches that were answered, by result code
 abbrev pub searches_text : Counts → List ℕ

@@ -8,7 +8,7 @@ use httparse::spans::{EMPTY_HEADER_SPAN, parse_request};
 const FIELDS: usize = 64;
 
 /// A page.
-#[derive(Clone, Copy, Debug, PartialEq, Eq)]
+#[derive(Clone, Copy)]
 pub enum Page {
     /// Whether the process lives.
     Live,
@@ -21,7 +21,7 @@ pub enum Page {
 }
 
 /// How a page is asked for.
-#[derive(Clone, Copy, Debug, PartialEq, Eq)]
+#[derive(Clone, Copy)]
 pub enum Method {
     /// Its head alone is wanted (RFC 9110 9.3.2).
     Head,
@@ -30,7 +30,7 @@ pub enum Method {
 }
 
 /// What the octets are that have come of a request.
-#[derive(Clone, Copy, Debug, PartialEq, Eq)]
+#[derive(Clone, Copy)]
 pub enum Head {
     /// A whole head, which asks for this page in this way.
     Asks(Method, Page),

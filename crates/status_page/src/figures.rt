@@ -2,7 +2,7 @@
 ghost use Rattle.std.specs.Prelude.{◌≡◌};
 
 /// What a replica does.
-#[derive(Clone, Copy, Debug, PartialEq, Eq)]
+#[derive(Clone, Copy, PartialEq, Eq)]
 pub enum Role {
     Primary,
     Backup,
@@ -13,7 +13,7 @@ pub enum Role {
 }
 
 /// What keeps a replica that has its state from serving as it should.
-#[derive(Clone, Copy, Debug, PartialEq, Eq)]
+#[derive(Clone, Copy)]
 pub enum Trouble {
     None,
     /// It has been at one step for longer than a suspect period.
@@ -25,7 +25,7 @@ pub enum Trouble {
 }
 
 /// How far a start over a journal is.
-#[derive(Clone, Copy, Debug, PartialEq, Eq)]
+#[derive(Clone, Copy)]
 pub enum Start {
     /// The node is opened, and has made all that its journal told.
     Over,
@@ -36,7 +36,7 @@ pub enum Start {
 }
 
 /// How the program was built.
-#[derive(Clone, Copy, Debug, PartialEq, Eq)]
+#[derive(Clone, Copy)]
 pub enum Build {
     /// The prover has checked each function before it was built.
     Proved,
@@ -87,7 +87,7 @@ pub struct ClientCounts {
 }
 
 /// A bound of a histogram, in seconds.
-#[derive(Clone, Copy, Debug, PartialEq, Eq)]
+#[derive(Clone, Copy)]
 pub enum BucketBound {
     Micros100,
     Micros300,

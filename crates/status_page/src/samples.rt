@@ -1,226 +1,287 @@
-//! Figures with their samples, in the text form that Prometheus reads: what one means, its kind, and a line a sample.
-ghost use Rattle.std.specs.Prelude.{◌≡◌, ◌++◌, IfOk, OnOk, codes, flat_map, string_bytes};
-ghost use Rattle.status_page.specs.Samples.{figure, sample, optional_sample, labelled_sample, labelled_figure};
-ghost use Rattle.status_page.specs.Samples.{scaled_sample, optional_scaled_sample, bucket_sample, histogram_samples};
+//! Metrics with their samples, in the text form that Prometheus reads: what one means, its kind, and a line a sample.
+ghost use Rattle.std.specs.Prelude.{◌≡◌, ◌++◌, OnOk, codes, flat_map, string_bytes};
+ghost use Rattle.status_page.specs.Samples.{bucket_sample, figure, histogram_samples, labelled_sample, sample};
+ghost use Rattle.status_page.specs.Samples.{scaled_sample};
+ghost use Rattle.status_page.specs.Metrics.{request_samples};
+ghost use Rattle.status_page.specs.Pages.{build_sample, has, role_sample, role_samples};
+ghost use Rattle.status_page.specs.private.Rows.{kind_word, metric_text, samples_text};
 
-use crate::figures::{Bucket, Histogram, Labelled};
-use std::alloc::{AllocError, Global};
+use crate::figures::{Bucket, Build, Histogram, Histograms, Labelled, Role};
+use std::alloc::AllocError;
+use std::fmt::Write;
 
-/// A figure: what it means and its kind, and then its samples.
-pub fn figure(
-    alloc: Global,
-    name: &str,
-    help: &str,
-    kind: &str,
-    samples: &str,
-) -> Result<String, AllocError>
-    ensures { IfOk result (λ s. string_bytes s ≡ figure name.now help.now kind.now samples.now) }
-{
-    format!(in alloc; "# HELP {name} {help}\n# TYPE {name} {kind}\n{samples}")
+/// What the numbers of a metric are.
+#[derive(Clone, Copy)]
+enum Kind {
+    Gauge,
+    Counter,
+    Histogram,
 }
 
-/// A figure with one sample.
-pub fn single(
-    alloc: Global,
-    name: &str,
-    help: &str,
-    kind: &str,
-    number: u64,
-) -> Result<String, AllocError>
-    ensures { IfOk result (λ s. string_bytes s ≡ figure name.now help.now kind.now (sample name.now number)) }
-{
-    let sample = format!(in alloc; "{name} {number}\n")?;
-    figure(alloc, name, help, kind, &sample)
+/// What a metric has samples of.
+#[derive(Clone, Copy)]
+pub enum Samples<'a> {
+    /// A number.
+    Number(u64),
+    /// A number; there is no sample where it isn't known.
+    Known(Option<u64>),
+    /// A number of hundredths, likewise.
+    Hundredths(Option<u64>),
+    /// A number for each result code.
+    ByCode(&'a Vec<Labelled>),
+    /// A number for each other replica.
+    ByPeer(&'a Vec<Labelled>),
+    /// The role that a replica has, and those that it hasn't.
+    Roles(Role),
+    /// The program's version, and how it was built.
+    Build { version: &'a str, build: Build },
+    /// How long requests took, by their kind.
+    Requests(&'a Histograms),
+    /// How long something took.
+    Times(&'a Histogram),
 }
 
-/// A figure with one sample, or without it where its number isn't known.
-pub fn optional(
-    alloc: Global,
-    name: &str,
-    help: &str,
-    kind: &str,
-    number: Option<u64>,
-) -> Result<String, AllocError>
-    ensures { IfOk result (λ s. string_bytes s ≡ figure name.now help.now kind.now (optional_sample name.now number)) }
-{
-    match number {
-        Some(number) => single(alloc, name, help, kind, number),
-        None => figure(alloc, name, help, kind, ""),
+/// A metric: what it means, its kind and its samples.
+#[derive(Clone, Copy)]
+pub struct Metric<'a> {
+    name: &'static str,
+    help: &'static str,
+    kind: Kind,
+    samples: Samples<'a>,
+}
+
+impl Kind {
+    /// Its name.
+    fn word(self) -> &'static str
+        ensures { result.now ≡ kind_word self }
+    {
+        match self {
+            Kind::Gauge => "gauge",
+            Kind::Counter => "counter",
+            Kind::Histogram => "histogram",
+        }
     }
 }
 
-/// A sample with a label, whose key this is.
-fn labelled_sample(
-    alloc: Global,
-    name: &str,
-    key: &str,
-    sample: Labelled,
-) -> Result<String, AllocError>
-    ensures { IfOk result (λ s. string_bytes s ≡ labelled_sample name.now key.now sample) }
+/// A metric that goes up and down.
+pub fn gauge<'a>(name: &'static str, help: &'static str, samples: Samples<'a>) -> Metric<'a>
+    ensures { metric_text result ≡ figure name.now help.now (codes "gauge") (samples_text name.now samples.entry) }
 {
-    let (label, number) = (sample.label, sample.number);
-    format!(in alloc; "{name}{{{key}=\"{label}\"}} {number}\n")
+    Metric {
+        name,
+        help,
+        kind: Kind::Gauge,
+        samples,
+    }
 }
 
-/// Adds a sample with a label.
+/// A metric that only goes up.
+pub fn counter<'a>(name: &'static str, help: &'static str, samples: Samples<'a>) -> Metric<'a>
+    ensures { metric_text result ≡ figure name.now help.now (codes "counter") (samples_text name.now samples.entry) }
+{
+    Metric {
+        name,
+        help,
+        kind: Kind::Counter,
+        samples,
+    }
+}
+
+/// A metric of how long something took, each time.
+pub fn histogram<'a>(name: &'static str, help: &'static str, samples: Samples<'a>) -> Metric<'a>
+    ensures { metric_text result ≡ figure name.now help.now (codes "histogram") (samples_text name.now samples.entry) }
+{
+    Metric {
+        name,
+        help,
+        kind: Kind::Histogram,
+        samples,
+    }
+}
+
+/// Adds a sample.
+fn push_number(text: &mut String, name: &str, number: u64) -> Result<(), AllocError>
+    ensures { OnOk result (string_bytes text.new ≡ string_bytes text.old ++ sample name.now number) }
+{
+    writeln!(text, "{name} {number}")
+}
+
+/// Adds a sample of so many hundredths.
+fn push_hundredths(text: &mut String, name: &str, number: u64) -> Result<(), AllocError>
+    ensures { OnOk result (string_bytes text.new ≡ string_bytes text.old ++ scaled_sample name.now number
+        (codes "e-2")) }
+{
+    writeln!(text, "{name} {number}e-2")
+}
+
+/// Adds a sample with a label, whose key this is.
 fn push_labelled(
-    alloc: Global,
-    samples: &mut String,
+    text: &mut String,
     name: &str,
     key: &str,
     sample: Labelled,
 ) -> Result<(), AllocError>
-    ensures { OnOk result (string_bytes samples.new ≡ string_bytes samples.old ++ labelled_sample name.now key.now
-        sample) }
+    ensures { OnOk result (string_bytes text.new ≡ string_bytes text.old ++ labelled_sample name.now key.now sample) }
 {
-    let line = labelled_sample(alloc, name, key, sample)?;
-    samples.push_str(line.as_str())
+    let (label, number) = (sample.label, sample.number);
+    writeln!(text, "{name}{{{key}=\"{label}\"}} {number}")
 }
 
-/// Samples with labels, a line each.
-fn labelled_samples(
-    alloc: Global,
+/// Adds samples with labels, a line each.
+fn push_all_labelled(
+    text: &mut String,
     name: &str,
     key: &str,
     samples: &[Labelled],
-) -> Result<String, AllocError>
-    ensures { IfOk result (λ s. string_bytes s ≡ flat_map (labelled_sample name.now key.now) samples.now) }
+) -> Result<(), AllocError>
+    ensures { OnOk result (string_bytes text.new ≡ string_bytes text.old ++ flat_map
+        (labelled_sample name.now key.now) samples.now) }
 {
-    let mut lines = String::new(alloc);
     for sample in samples {
-        push_labelled(alloc, &mut lines, name, key, *sample)?;
+        push_labelled(text, name, key, *sample)?;
     }
-    Ok(lines)
+    Ok(())
 }
 
-/// A figure with a sample for each label.
-pub fn labelled(
-    alloc: Global,
-    name: &str,
-    help: &str,
-    kind: &str,
-    key: &str,
-    samples: &[Labelled],
-) -> Result<String, AllocError>
-    ensures { IfOk result (λ s. string_bytes s ≡ labelled_figure name.now help.now kind.now key.now samples.now) }
+/// 1 for the role that the replica has, and 0 for another.
+fn has(own: Role, role: Role) -> u64
+    ensures { result ≡ has own role }
 {
-    let lines = labelled_samples(alloc, name, key, samples)?;
-    figure(alloc, name, help, kind, &lines)
+    u64::from(own == role)
 }
 
-/// A figure with one sample, of so many hundredths or alike, or without it where its number isn't known.
-pub fn optional_scaled(
-    alloc: Global,
-    name: &str,
-    help: &str,
-    kind: &str,
-    number: Option<u64>,
-    exponent: &str,
-) -> Result<String, AllocError>
-    ensures { IfOk result (λ s. string_bytes s ≡ figure name.now help.now kind.now (optional_scaled_sample name.now
-        number exponent.now)) }
+/// Adds a sample of a role.
+fn push_role(text: &mut String, own: Role, role: Role) -> Result<(), AllocError>
+    ensures { OnOk result (string_bytes text.new ≡ string_bytes text.old ++ role_sample own role) }
 {
-    match number {
-        Some(number) => {
-            let sample = scaled_sample(alloc, name, number, exponent)?;
-            figure(alloc, name, help, kind, &sample)
-        }
-        None => figure(alloc, name, help, kind, ""),
-    }
+    let (name, number) = (role.name(), has(own, role));
+    writeln!(text, "dird_role{{role=\"{name}\"}} {number}")
 }
 
-/// A sample of so many hundredths, millionths or alike.
-fn scaled_sample(
-    alloc: Global,
-    name: &str,
-    number: u64,
-    exponent: &str,
-) -> Result<String, AllocError>
-    ensures { IfOk result (λ s. string_bytes s ≡ scaled_sample name.now number exponent.now) }
+/// Adds a sample of each role.
+fn push_roles(text: &mut String, own: Role) -> Result<(), AllocError>
+    ensures { OnOk result (string_bytes text.new ≡ string_bytes text.old ++ role_samples own) }
 {
-    format!(in alloc; "{name} {number}{exponent}\n")
+    push_role(text, own, Role::Primary)?;
+    push_role(text, own, Role::Backup)?;
+    push_role(text, own, Role::Changing)?;
+    push_role(text, own, Role::Recovering)
 }
 
-/// A sample without a label of its own.
-fn plain_sample(alloc: Global, name: &str, number: u64) -> Result<String, AllocError>
-    ensures { IfOk result (λ s. string_bytes s ≡ sample name.now number) }
+/// Adds a sample whose labels say the version, and whether the program's proofs were checked.
+fn push_build(text: &mut String, version: &str, build: Build) -> Result<(), AllocError>
+    ensures { OnOk result (string_bytes text.new ≡ string_bytes text.old ++ build_sample version.now build) }
 {
-    format!(in alloc; "{name} {number}\n")
-}
-
-/// A bucket of a histogram.
-fn bucket_sample(
-    alloc: Global,
-    name: &str,
-    front: &str,
-    bucket: Bucket,
-) -> Result<String, AllocError>
-    ensures { IfOk result (λ s. string_bytes s ≡ bucket_sample name.now front.now bucket) }
-{
-    let (bound, number) = (bucket.bound.word(), bucket.number);
-    format!(in alloc; "{name}_bucket{{{front}le=\"{bound}\"}} {number}\n")
+    let (proved, number) = (build.proved_word(), 1_u64);
+    writeln!(
+        text,
+        "dird_build_info{{version=\"{version}\",proved=\"{proved}\"}} {number}"
+    )
 }
 
 /// Adds a bucket of a histogram.
-fn push_bucket(
-    alloc: Global,
-    samples: &mut String,
-    name: &str,
-    front: &str,
-    bucket: Bucket,
-) -> Result<(), AllocError>
-    ensures { OnOk result (string_bytes samples.new ≡ string_bytes samples.old ++ bucket_sample name.now front.now
-        bucket) }
+fn push_bucket(text: &mut String, name: &str, front: &str, bucket: Bucket) -> Result<(), AllocError>
+    ensures { OnOk result (string_bytes text.new ≡ string_bytes text.old ++ bucket_sample name.now front.now bucket) }
 {
-    let line = bucket_sample(alloc, name, front, bucket)?;
-    samples.push_str(line.as_str())
+    let (bound, number) = (bucket.bound.word(), bucket.number);
+    writeln!(text, "{name}_bucket{{{front}le=\"{bound}\"}} {number}")
 }
 
-/// The buckets of a histogram, a line each.
-fn bucket_samples(
-    alloc: Global,
+/// Adds the buckets of a histogram, a line each.
+fn push_buckets(
+    text: &mut String,
     name: &str,
     front: &str,
     buckets: &[Bucket],
-) -> Result<String, AllocError>
-    ensures { IfOk result (λ s. string_bytes s ≡ flat_map (bucket_sample name.now front.now) buckets.now) }
+) -> Result<(), AllocError>
+    ensures { OnOk result (string_bytes text.new ≡ string_bytes text.old ++ flat_map
+        (bucket_sample name.now front.now) buckets.now) }
 {
-    let mut lines = String::new(alloc);
     for bucket in buckets {
-        push_bucket(alloc, &mut lines, name, front, *bucket)?;
+        push_bucket(text, name, front, *bucket)?;
     }
-    Ok(lines)
+    Ok(())
 }
 
-/// The sum of a histogram.
-fn sum_sample(alloc: Global, name: &str, labels: &str, micros: u64) -> Result<String, AllocError>
-    ensures { IfOk result (λ s. string_bytes s ≡ scaled_sample (name.now ++ codes "_sum" ++ labels.now) micros
-        (codes "e-6")) }
-{
-    let of_sum = format!(in alloc; "{name}_sum{labels}")?;
-    scaled_sample(alloc, &of_sum, micros, "e-6")
-}
-
-/// How often what a histogram is of has come.
-fn count_sample(alloc: Global, name: &str, labels: &str, count: u64) -> Result<String, AllocError>
-    ensures { IfOk result (λ s. string_bytes s ≡ sample (name.now ++ codes "_count" ++ labels.now) count) }
-{
-    let of_count = format!(in alloc; "{name}_count{labels}")?;
-    plain_sample(alloc, &of_count, count)
-}
-
-/// The samples of a histogram.
-pub fn histogram_samples(
-    alloc: Global,
+/// Adds the samples of a histogram: its buckets, the sum of the seconds, and how often.
+fn push_times(
+    text: &mut String,
     name: &str,
     front: &str,
     labels: &str,
     times: &Histogram,
-) -> Result<String, AllocError>
-    ensures { IfOk result (λ s. string_bytes s ≡ histogram_samples name.now front.now labels.now times.now) }
+) -> Result<(), AllocError>
+    ensures { OnOk result (string_bytes text.new ≡ string_bytes text.old ++ histogram_samples name.now front.now
+        labels.now times.now) }
 {
-    let buckets = bucket_samples(alloc, name, front, times.buckets.as_slice())?;
-    let sum = sum_sample(alloc, name, labels, times.micros)?;
-    let count = count_sample(alloc, name, labels, times.count)?;
-    format!(in alloc; "{buckets}{sum}{count}")
+    push_buckets(text, name, front, times.buckets.as_slice())?;
+    let (micros, count) = (times.micros, times.count);
+    writeln!(
+        text,
+        "{name}_sum{labels} {micros}e-6\n{name}_count{labels} {count}"
+    )
+}
+
+/// Adds the samples of requests.
+fn push_requests(text: &mut String, times: &Histograms) -> Result<(), AllocError>
+    ensures { OnOk result (string_bytes text.new ≡ string_bytes text.old ++ request_samples times.now) }
+{
+    let name = "dird_request_seconds";
+    push_times(
+        text,
+        name,
+        "kind=\"search\",",
+        "{kind=\"search\"}",
+        &times.searches,
+    )?;
+    push_times(
+        text,
+        name,
+        "kind=\"compare\",",
+        "{kind=\"compare\"}",
+        &times.compares,
+    )?;
+    push_times(
+        text,
+        name,
+        "kind=\"update\",",
+        "{kind=\"update\"}",
+        &times.updates,
+    )
+}
+
+/// Adds the samples of a metric of this name.
+fn push_samples(text: &mut String, name: &str, samples: Samples<'_>) -> Result<(), AllocError>
+    ensures { OnOk result (string_bytes text.new ≡ string_bytes text.old ++ samples_text name.now samples.entry) }
+{
+    match samples {
+        Samples::Number(number) | Samples::Known(Some(number)) => push_number(text, name, number),
+        Samples::Hundredths(Some(number)) => push_hundredths(text, name, number),
+        Samples::Known(None) | Samples::Hundredths(None) => Ok(()),
+        Samples::ByCode(numbers) => push_all_labelled(text, name, "code", numbers),
+        Samples::ByPeer(numbers) => push_all_labelled(text, name, "peer", numbers),
+        Samples::Roles(own) => push_roles(text, own),
+        Samples::Build { version, build } => push_build(text, version, build),
+        Samples::Requests(times) => push_requests(text, times),
+        Samples::Times(times) => push_times(text, name, "", "", times),
+    }
+}
+
+/// Adds a metric: what it means and its kind, and then its samples.
+fn push_metric(text: &mut String, metric: Metric<'_>) -> Result<(), AllocError>
+    ensures { OnOk result (string_bytes text.new ≡ string_bytes text.old ++ metric_text metric.entry) }
+{
+    let (name, help, kind) = (metric.name, metric.help, metric.kind.word());
+    writeln!(text, "# HELP {name} {help}\n# TYPE {name} {kind}")?;
+    push_samples(text, name, metric.samples)
+}
+
+/// Adds metrics, one behind the other.
+pub fn push_metrics(text: &mut String, metrics: &[Metric<'_>]) -> Result<(), AllocError>
+    ensures { OnOk result (string_bytes text.new ≡ string_bytes text.old ++ flat_map metric_text metrics.now) }
+{
+    for metric in metrics {
+        push_metric(text, *metric)?;
+    }
+    Ok(())
 }

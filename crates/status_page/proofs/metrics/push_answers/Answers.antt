@@ -1,0 +1,14 @@
+-- What search doesn't prove of `push_answers`: its rows, one behind the other.
+use Rattle.status_page.proofs.Rows.{row, ◌▸◌, added}
+use Rattle.status_page.proofs.metrics.push_answers.Goals as goal
+
+pub returns : goal.returns
+returns c =
+    added c.push_metrics.result _ _
+    (row c.counter.result _ c.counter.ensures
+    ▸ row c.counter-2.result _ c.counter-2.ensures
+    ▸ row c.counter-3.result _ c.counter-3.ensures
+    ▸ row c.counter-4.result _ c.counter-4.ensures
+    ▸ (row c.counter-5.result _ c.counter-5.ensures
+    ▸ row c.counter-6.result _ c.counter-6.ensures))
+    c.push_metrics.ensures

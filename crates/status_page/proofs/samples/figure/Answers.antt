@@ -1,7 +1,0 @@
--- What search doesn't prove of `figure`: what it returns, by lemmas of `Written`.
-use Rattle.std.proofs.Common.{append_assoc, string_bytes}
-use Rattle.status_page.proofs.Written.{written_as}
-use Rattle.status_page.proofs.samples.figure.Goals as goal
-
-pub returns : goal.returns
-returns c = written_as string_bytes c.format.result _ _ (simp append_assoc) c.format.ensures.ok

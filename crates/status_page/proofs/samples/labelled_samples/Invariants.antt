@@ -1,8 +1,0 @@
-use Rattle.std.proofs.Common.{◌≡◌, ◌++◌, drop, flat_map, string_bytes}
-use Rattle.status_page.specs.Samples.{labelled_sample}
-use Rattle.status_page.proofs.samples.labelled_samples.Given as goal
-
-abbrev pub invariant-loop-sample : goal.invariant-loop-sample
-invariant-loop-sample l =
-    string_bytes l.lines ++ flat_map (labelled_sample l.name l.key) (drop l.sample-index l.samples) ≡
-    flat_map (labelled_sample l.name l.key) l.samples

@@ -1,8 +1,0 @@
--- What search doesn't prove of `metrics`: what it returns, by lemmas of `Written`.
-use Rattle.std.proofs.Common.{string_bytes}
-use Rattle.status_page.proofs.Written.{written_as, two}
-use Rattle.status_page.proofs.writing.metrics.Goals as goal
-
-pub returns : goal.returns
-returns c = written_as string_bytes c.format.result _ _ (two _ _ _ _ c.in_ok-replica.ensures c.in_ok-counted.ensures)
-    c.format.ensures.ok
