@@ -1,10 +1,10 @@
 //! What is logged of updates and of slow searches, a line an event.
 use directory_api::{Client, Ended, SearchRequest, Update};
 use filter_text::print_text;
-use server_monitor::{Reporter, one_line};
+use server_monitor::Reporter;
 use std::alloc::{AllocError, Global};
 use std::sync::Wait;
-use text_faults::code_word;
+use text_faults::{code_word, one_line};
 
 /// An update of this kind, of the entry of this name.
 fn update_text(alloc: Global, kind: &str, name: &str) -> Result<String, AllocError> {

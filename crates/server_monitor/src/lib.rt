@@ -6,8 +6,8 @@
 //! `status_page` writes them.
 //!
 //! On standard error an event is a line: `Lines` wait in a queue with a limit, and one thread writes them (`Reporter`).
-//! No other thread waits for it. `lines` has the queue, `notes` what each of its places stands for, `showing` makes one
-//! line of a client's text, and `logs` says which events are logged. What the lines say is in the crates above.
+//! No other thread waits for it. `lines` has the queue, `notes` what each of its places stands for, and `logs` says which
+//! events are logged. What the lines say is in the crates above.
 //!
 //! Proved: no line goes uncounted (`Lines`, `none_uncounted`). Of the rest, safety alone.
 #![tactic(auto)]
@@ -22,7 +22,6 @@ mod process_files;
 mod reporter;
 mod resident;
 mod seconds;
-mod showing;
 mod start;
 
 pub use counters::{Counters, Others};
@@ -34,7 +33,6 @@ pub use notes::Note;
 pub use process_files::{ProcessFiles, descriptor_limit};
 pub use reporter::{NoteWriter, Reporter, StandardError, takes_a_line};
 pub use resident::{GROUP_MEMORY, MACHINE_MEMORY, available_octets};
-pub use showing::one_line;
 pub use start::StartProgress;
 pub use status_page::{
     Build, Counts, Figures, Labelled, Method, Page, ProcessCounts, Role, Start, Trouble, page,

@@ -1,11 +1,10 @@
 -- Octets whose escapes the reader of names refuses.
 use Rattle.std.proofs.Common.{◌≡◌, ◌++◌, ℕ, List, [], ◌∷◌, Bool, true, Option, None, Some, is_none, ◌+◌, ◌<◌, length, drop, get_or, ap, add-one, refl, ◌∙◌}
 use Rattle.std.proofs.Math.Seq.{drop-cons}
-use Rattle.ldap_match.specs.ldap_dn.Texts.{step, ended, stepped, scanned, tokens_of}
+use Rattle.ldap_match.specs.ldap_dn.Texts.{step, ended, stepped, scanned}
 use Rattle.ldap_match.specs.ldap_dn.declared.token.Token.{Token}
 use Rattle.ldap_match.specs.ldap_dn.declared.token.Scan.{Scan}
 use Rattle.ldap_match.specs.ldap_dn.declared.token.Scan.TheVariants.{Between, Escape, Half}
-use Rattle.ldap_match.specs.ldap_dn.declared.token.Step.{Step}
 use Rattle.ldap_match.specs.ldap_dn.declared.token.Step.TheVariants.{Refuses, Reads, Gives}
 use Rattle.text_faults.specs.private.Names.{goes_to}
 

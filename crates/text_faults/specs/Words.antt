@@ -16,13 +16,14 @@ character_shown c = cond (is_control c) (flat_map octet_digits (encode_utf8 c)) 
 abbrev pub raw_octet_shown : ℕ → List ℕ
 raw_octet_shown octet = cond (is_ascii octet) (character_shown octet) (octet_digits octet)
 
--- all of these, or the first 64 and two dots
-abbrev pub cut : (ℕ → List ℕ) → List ℕ → List ℕ
-cut show xs = cond (nat_lt 64 (length xs)) (flat_map show (take 64 xs) ++ codes "..") (flat_map show xs)
+-- all of these, or the first of them, at most so many, and two dots
+abbrev pub cut : ℕ → (ℕ → List ℕ) → List ℕ → List ℕ
+cut limit show xs =
+    cond (nat_lt limit (length xs)) (flat_map show (take limit xs) ++ codes "..") (flat_map show xs)
 
--- a word: by its characters where it is UTF-8, else by its octets
+-- a word, up to 64 of its characters where it is UTF-8, else of its octets
 abbrev pub word_shown : List ℕ → List ℕ
-word_shown octets = cond (is_utf8 octets) (cut character_shown (chars octets)) (cut raw_octet_shown octets)
+word_shown octets = cond (is_utf8 octets) (cut 64 character_shown (chars octets)) (cut 64 raw_octet_shown octets)
 
 -- an octet in a sentence: itself, or a backslash and two hexadecimal digits where it is no ASCII that prints
 abbrev pub octet_shown : ℕ → List ℕ

@@ -5,7 +5,7 @@
 //! `ldif_faults` use them too.
 //!
 //! Proved: each sentence is its definition (`code_word`, `filter_fault`, `name_fault`, `script_fault`), and so is a
-//! word as a sentence shows it (`shown`). Where the cause isn't found, the sentence says less.
+//! word as a sentence shows it (`shown`), and a text as a line of a log does (`one_line`). Where the cause isn't found, the sentence says less.
 #![tactic(auto)]
 
 mod codes;
@@ -20,4 +20,4 @@ pub use filters::filter_fault;
 pub use fronts::{colon, front_of};
 pub use names::name_fault;
 pub use scripts::script_fault;
-pub use showing::{octet_shown, said, shown};
+pub use showing::{octet_shown, one_line, said, shown};

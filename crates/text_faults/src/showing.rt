@@ -1,13 +1,16 @@
 //! Octets of a text as they are shown in a sentence: on one line, and not too long.
-ghost use Rattle.std.specs.Prelude.{◌≡◌, ◌++◌, IfOk, OnOk, chars, flat_map, string_bytes, take};
+ghost use Rattle.std.specs.Prelude.{◌≡◌, ◌≤◌, ◌++◌, IfOk, OnOk, chars, flat_map, string_bytes, take};
 ghost use Rattle.text_faults.specs.Words.{octet_shown};
 ghost use Rattle.text_faults.specs.Words.{octet_digits, character_shown, raw_octet_shown, cut, word_shown};
 
 use std::alloc::{AllocError, Global};
 use std::fmt::Write;
 
-/// How many characters of a word are shown.
-const LIMIT: usize = 64;
+/// How many characters of a word are shown in a sentence.
+const WORD: usize = 64;
+
+/// How many characters of a text are shown in a line of a log.
+const LINE: usize = 512;
 
 /// Adds an octet as a backslash and two hexadecimal digits.
 fn push_digits(sentence: &mut String, octet: u8) -> Result<(), AllocError>
@@ -49,22 +52,26 @@ fn push_characters(sentence: &mut String, characters: &[char]) -> Result<(), All
     Ok(())
 }
 
-/// The characters of a text, as many as are shown and one more.
-fn first_characters(alloc: Global, text: &str) -> Result<Vec<char>, AllocError>
-    ensures { IfOk result (λ v. v.items ≡ take 65 (chars text.now)) }
+/// The first characters of a text, at most so many.
+fn first_characters(alloc: Global, text: &str, count: usize) -> Result<Vec<char>, AllocError>
+    ensures { IfOk result (λ v. v.items ≡ take count (chars text.now)) }
 {
-    text.chars().take(LIMIT + 1).collect(alloc)
+    text.chars().take(count).collect(alloc)
 }
 
-/// Adds characters, or the first of them and two dots.
-fn push_cut_characters(sentence: &mut String, characters: &[char]) -> Result<(), AllocError>
-    ensures { OnOk result (string_bytes sentence.new ≡ string_bytes sentence.old ++ cut character_shown
+/// Adds characters, or the first of them, so many, and two dots.
+fn push_cut_characters(
+    sentence: &mut String,
+    characters: &[char],
+    limit: usize,
+) -> Result<(), AllocError>
+    ensures { OnOk result (string_bytes sentence.new ≡ string_bytes sentence.old ++ cut limit character_shown
         characters.now) }
 {
-    if characters.len() <= LIMIT {
+    if characters.len() <= limit {
         return push_characters(sentence, characters);
     }
-    let (front, _) = characters.split_at(LIMIT);
+    let (front, _) = characters.split_at(limit);
     push_characters(sentence, front)?;
     sentence.push_str("..")
 }
@@ -93,30 +100,38 @@ fn push_octets(sentence: &mut String, octets: &[u8]) -> Result<(), AllocError>
 
 /// Adds octets of what is no text, or the first of them and two dots.
 fn push_cut_octets(sentence: &mut String, octets: &[u8]) -> Result<(), AllocError>
-    ensures { OnOk result (string_bytes sentence.new ≡ string_bytes sentence.old ++ cut raw_octet_shown octets.now) }
+    ensures { OnOk result (string_bytes sentence.new ≡ string_bytes sentence.old ++ cut 64 raw_octet_shown octets.now) }
 {
-    if octets.len() <= LIMIT {
+    if octets.len() <= WORD {
         return push_octets(sentence, octets);
     }
-    let (front, _) = octets.split_at(LIMIT);
+    let (front, _) = octets.split_at(WORD);
     push_octets(sentence, front)?;
     sentence.push_str("..")
 }
 
 #[tactic(auto, using(crate::proofs::Cuts::cut_front))]
-/// A text as it is shown in a sentence.
-fn text_shown(alloc: Global, text: &str) -> Result<String, AllocError>
-    ensures { IfOk result (λ s. string_bytes s ≡ cut character_shown (chars text.now)) }
+/// A text as it is shown: so many of its characters, and two dots where there are more.
+fn text_shown(alloc: Global, text: &str, limit: usize) -> Result<String, AllocError>
+    requires { limit ≤ 512 }
+    ensures { IfOk result (λ s. string_bytes s ≡ cut limit character_shown (chars text.now)) }
 {
-    let characters = first_characters(alloc, text)?;
-    let mut sentence = String::new(alloc);
-    push_cut_characters(&mut sentence, characters.as_slice())?;
-    Ok(sentence)
+    let characters = first_characters(alloc, text, limit + 1)?;
+    let mut shown = String::new(alloc);
+    push_cut_characters(&mut shown, characters.as_slice(), limit)?;
+    Ok(shown)
+}
+
+/// A client's text as a line of a log shows it: on one line, its front and two dots where it is long.
+pub fn one_line(alloc: Global, text: &str) -> Result<String, AllocError>
+    ensures { IfOk result (λ s. string_bytes s ≡ cut 512 character_shown (chars text.now)) }
+{
+    text_shown(alloc, text, LINE)
 }
 
 /// Octets that are no text as they are shown in a sentence.
 fn octets_shown(alloc: Global, octets: &[u8]) -> Result<String, AllocError>
-    ensures { IfOk result (λ s. string_bytes s ≡ cut raw_octet_shown octets.now) }
+    ensures { IfOk result (λ s. string_bytes s ≡ cut 64 raw_octet_shown octets.now) }
 {
     let mut sentence = String::new(alloc);
     push_cut_octets(&mut sentence, octets)?;
@@ -129,7 +144,7 @@ pub fn shown(alloc: Global, octets: &[u8]) -> Result<String, AllocError>
     ensures { IfOk result (λ s. string_bytes s ≡ word_shown octets.now) }
 {
     match str::from_utf8(octets) {
-        Ok(text) => text_shown(alloc, text),
+        Ok(text) => text_shown(alloc, text, WORD),
         Err(_) => octets_shown(alloc, octets),
     }
 }

@@ -1,5 +1,5 @@
 -- What search doesn't prove of `parts`: `loop-index-preserved` and what it returns, by lemmas of `Cutting`.
-use Rattle.std.proofs.Common.{◌≡◌, ◌+◌, ◌∙◌, ap, arith, map}
+use Rattle.std.proofs.Common.{◌+◌, ◌∙◌, ap, arith, map}
 use Rattle.std.specs.List.{slice_range}
 use Rattle.text_faults.proofs.Cutting.{cut_all, ends_part, goes_on, ends_all, longer_range, empty_range}
 use Rattle.text_faults.proofs.names.parts.Goals as goal

@@ -7,6 +7,6 @@ use Rattle.text_faults.proofs.showing.first_characters.Goals as goal
 pub returns : goal.returns
 returns c =
     items_from_collect c.collect.result c.collect.ensures.ran
-    (YieldsList-from_take 65
+    (YieldsList-from_take c.args.count
     (YieldsList-from_chars c.args.text.now c.utf8.text (ap chars_rest c.take.ensures.source ∙ c.chars.ensures.rest))
     c.take.ensures.count)
