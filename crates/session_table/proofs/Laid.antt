@@ -7,7 +7,6 @@ use Rattle.session_turns.specs.declared.spot.Queue.TheVariants.{Silent, Inside}
 use Rattle.session_table.specs.Attending.{IsAllSaid}
 use Rattle.session_table.specs.Laying.{Fits}
 use Rattle.session_table.specs.Waiting.{WaitsFor}
-use Rattle.session_table.specs.declared.laying.Destination.{Destination}
 use Rattle.session_table.specs.declared.laying.Destination.TheVariants.{Parks}
 
 pub fits_listening : (v : ConversationValue) (queue : Queue) → IsAllSaid v DueNothing → WaitsFor v.session queue →

@@ -2,8 +2,7 @@
 -- one comes out.
 use Rattle.std.proofs.Common.{◌≡◌, ℕ, List, ◌∷◌, Option, Some, None, sym, ap, ◌∙◌, subst, slice_get, Bor}
 use Rattle.std.specs.Prelude.{IfSome, IfNone, option_copied}
-use Rattle.session_table.specs.Posting.{IsPast}
-use Rattle.session_table.specs.Tabling.{Tabled, IsHome, Works, WaitsFirst}
+use Rattle.session_table.specs.Tabling.{Tabled, Works, WaitsFirst}
 use Rattle.session_table.specs.declared.pooled.PooledSession.{PooledSession}
 
 -- what is said of a value is said of what a reference to it shows

@@ -1,5 +1,5 @@
 -- Where a session goes that a thread lays down. Its conversation comes in; whether it may wait there comes out.
-use Rattle.std.specs.Prelude.{◌≡◌, ◌⊎◌, [], None, Some}
+use Rattle.std.specs.Prelude.{◌≡◌, ◌⊎◌, [], Some}
 use Rattle.ldap_session.specs.View.{ConversationValue}
 use Rattle.ldap_session.specs.declared.due.Due.TheVariants.{Nothing as DueNothing, Update as DueUpdate, Other as DueOther}
 use Rattle.ldap_session.specs.declared.end.SessionEnd.TheVariants.{WriteFailed}

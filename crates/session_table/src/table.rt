@@ -1,6 +1,6 @@
 //! What the threads of a pool share under one lock: the sessions that no thread serves, what they hold, the updates
 //! that wait in threads, and whose turn it is.
-ghost use Rattle.std.specs.Prelude.{◌≡◌, ℕ, [], None, Some, Err, IfOk, IfErr, OnOk, OnErr, IfSome, IfNone, IsFalse, ◌↔◌, replicate, slice_set};
+ghost use Rattle.std.specs.Prelude.{◌≡◌, ℕ, ◌%◌, [], None, Some, Err, IfOk, IfErr, OnOk, OnErr, IfSome, IfNone, IsFalse, ◌↔◌, replicate, slice_set};
 ghost use Rattle.std.specs.Option.{option_map};
 ghost use Rattle.session_turns.specs.Holding.{IsRather, NoneRather};
 ghost use Rattle.session_turns.specs.Places.{IsIn, NoneIn};
@@ -8,7 +8,7 @@ ghost use Rattle.session_turns.specs.Resting.{call_of, called};
 ghost use Rattle.session_turns.specs.Turning.{how_many, nobody};
 ghost use Rattle.session_turns.specs.declared.spot.Queue.{Queue};
 ghost use Rattle.session_table.specs.Holding.{Holds};
-ghost use Rattle.session_table.specs.Noting.{IsToldOf};
+ghost use Rattle.session_table.specs.Noting.{IsToldOf, IsNowhere, OwnsPlace, Leaves, Gives};
 ghost use Rattle.session_table.specs.Posting.{posted, HasPost, IsGone, IsPast};
 ghost use Rattle.session_table.specs.Tabling.{tabled, session_at, freed, IsAt, IsFree, Claims, Parks, LinesUp, Wakes, Sits, Works, WaitsLongest, Rouses, NoneOverdue, LeavesTime, WaitsItsTurn, Notes};
 ghost use Rattle.session_table.specs.Tokens.{token_of};
@@ -291,6 +291,10 @@ impl Table {
         state: ClientState,
         now: Instant,
     ) -> NoteOutcome
+        ensures gone { state ≡ ClientState.Gone → (thread : ℕ) → HasPost (posted self.old.updaters) thread token
+            → Leaves result }
+        ensures told { IsNowhere (posted self.old.updaters) token → OwnsPlace (tabled self.old.places) token
+            → WaitsItsTurn (tabled self.old.places) (token % 4294967296) → Gives result }
         ensures leaves { (thread : ℕ) → result ≡ NoteOutcome.Leaves thread
             → HasPost (posted self.old.updaters) thread token }
         ensures gives { (less : ℕ) → result ≡ NoteOutcome.Gives less
@@ -326,6 +330,8 @@ impl Table {
         now: Instant,
     ) -> NoteOutcome
         ensures stays { (thread : ℕ) → result ≡ NoteOutcome.Leaves thread → ⊥ }
+        ensures told { OwnsPlace (tabled self.old.places) token
+            → WaitsItsTurn (tabled self.old.places) (token % 4294967296) → Gives result }
         ensures gives { (less : ℕ) → result ≡ NoteOutcome.Gives less
             → IsToldOf (tabled self.old.places) token (tabled self.new.places) }
     {

@@ -1,8 +1,6 @@
 -- What search doesn't prove of `leaving`: what `index` requires, by lemmas of `Standing`.
 use Rattle.std.proofs.Common.{◌≡◌, ℕ, refl, ap, sym, ◌∙◌, Some, slice_get, arith, length}
 use Rattle.session_turns.specs.Places.{IsIn}
-use Rattle.session_turns.specs.declared.spot.Queue.TheVariants.{Leaving}
-use Rattle.session_turns.specs.declared.spot.Spot.TheVariants.{In}
 use Rattle.session_table.specs.declared.place_state.PlaceState.TheVariants.{Waits}
 use Rattle.session_table.proofs.Standing.{below_made, waits_in_book}
 use Rattle.session_table.proofs.places.Places.leaving.Goals as goal

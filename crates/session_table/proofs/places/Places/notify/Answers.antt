@@ -1,7 +1,7 @@
 -- What search doesn't prove of `notify`: what `index_mut` requires, the invariant, the clause `some`, the clause `none`
 -- and the clause `left`, by lemmas of `Noted` and `Standing`.
-use Rattle.std.proofs.Common.{◌≡◌, ℕ, List, Bool, true, refl, sym, ap, ◌∙◌, subst, Some, None, slice_get, nat_lt, arith, length}
-use Rattle.std.specs.Prelude.{slice_set, Option}
+use Rattle.std.proofs.Common.{◌≡◌, ℕ, sym, ap, ◌∙◌, subst, Some, slice_get, nat_lt, arith}
+use Rattle.std.specs.Prelude.{Option}
 use Rattle.std.proofs.lemmas.Option.{slice_get_within, get_or_from_slice_get}
 use Rattle.session_table.specs.private.Stands.{is_made, is_here, has_some}
 use Rattle.session_table.specs.private.Slots.{NotesOne, NotesAt}
