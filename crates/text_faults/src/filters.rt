@@ -1,17 +1,18 @@
 //! Texts of filters (RFC 4515 3): what was expected at the octet where no filter's text goes on. All before it begins a
 //! filter.
 ghost use Rattle.std.specs.Prelude.{◌≡◌, ◌++◌, ◌-◌, ◌∷◌, [], IfOk, OnOk, drop, length, nat_eq, slice_get, string_bytes, take};
-ghost use Rattle.std.specs.List.{list_any, position};
+ghost use Rattle.std.specs.List.{list_any};
 ghost use Rattle.text_faults.specs.Filters.{place_after, around_after, place_behind, around_behind, wanted_behind, missing_digits};
 ghost use Rattle.text_faults.specs.Filters.{wanted_for, wanted_in_value, ends_with_half, is_half, wanted_in_front, wanted_in_item};
 ghost use Rattle.text_faults.specs.Filters.{wanted_at, found_shown, filter_sentence};
 ghost use Rattle.text_faults.specs.declared.filters.Place.TheVariants as place;
 
+use crate::fronts::{colon, place_of};
 use crate::showing::{octet_shown, said};
 use std::alloc::{AllocError, Global};
 
 /// What is round a place.
-#[derive(Clone, Copy, Debug, PartialEq, Eq)]
+#[derive(Clone, Copy)]
 pub enum Around {
     /// `(&` or `(|`.
     Row,
@@ -20,7 +21,7 @@ pub enum Around {
 }
 
 /// Where a reader of a filter is.
-#[derive(Clone, Copy, Debug, PartialEq, Eq)]
+#[derive(Clone, Copy)]
 pub enum Place {
     /// A filter is to begin.
     Opening,
@@ -174,7 +175,7 @@ fn ends_with_half(front: &[u8]) -> bool
 fn has_colon(octets: &[u8]) -> bool
     ensures { result ≡ list_any (λ octet. nat_eq octet 58) octets.now }
 {
-    octets.iter().any(|octet| *octet == b':')
+    colon(octets).is_some()
 }
 
 /// What was expected behind the front of an item's name and its operator.
@@ -191,18 +192,11 @@ fn wanted_in_front(front: &[u8]) -> &'static str
     }
 }
 
-/// Where the first '=' of an item is.
-fn equals_in(item: &[u8]) -> Option<usize>
-    ensures { result ≡ position (λ octet. nat_eq octet 61) item.now }
-{
-    item.iter().position(|octet| *octet == b'=')
-}
-
 /// What was expected in an item, of which this much is right.
 fn wanted_in_item(item: &[u8], next: Option<u8>) -> &'static str
     ensures { result.now ≡ wanted_in_item item.now next }
 {
-    match equals_in(item) {
+    match place_of(item, b'=') {
         None => wanted_in_front(item),
         Some(at) => wanted_in_value(&item[at + 1..], next),
     }

@@ -17,7 +17,7 @@ mod showing;
 
 pub use codes::code_word;
 pub use filters::filter_fault;
-pub use fronts::{colon, front_of};
+pub use fronts::{colon, first_word, front_of, place_of};
 pub use names::name_fault;
 pub use scripts::script_fault;
-pub use showing::{octet_shown, one_line, said, shown};
+pub use showing::{about_octet, about_word, about_words, octet_shown, one_line, said, shown};

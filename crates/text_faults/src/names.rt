@@ -4,13 +4,13 @@ ghost use Rattle.std.specs.Prelude.{◌≡◌, ◌++◌, ◌∷◌, [], IfOk, On
 ghost use Rattle.std.specs.List.{position};
 ghost use Rattle.ldap_match.specs.ldap_dn.Texts.{name_of_text, step as reader_step, tokens_of};
 ghost use Rattle.ldap_match.specs.ldap_dn.Tokens.{is_escapable};
-ghost use Rattle.text_faults.specs.Names.{is_bare, parts_of, less_front, trimmed, is_blank, is_name, is_right, first_wrong, is_mark, bare_mark};
-ghost use Rattle.text_faults.specs.private.Names.{scan_of, goes_to};
-ghost use Rattle.text_faults.specs.Names.{lacks_equality, none_of_type, no_value, bad_value, bad_typed, bad_named, bad_cut, bad_pair, bad_rdn_by, bad_rdn, no_name, bad_name_by, name_sentence};
+ghost use Rattle.text_faults.specs.Names.{bad_cut, bad_name_by, bad_named, bad_pair, bad_rdn, bad_value, bare_mark, first_wrong, is_bare};
+ghost use Rattle.text_faults.specs.Names.{is_blank, is_mark, is_name, is_right, less_front, name_sentence, no_name, no_value, parts_of, trimmed};
 ghost use Rattle.text_faults.specs.Words.{octet_shown};
-ghost use Rattle.text_faults.specs.Words.{word_shown};
+ghost use Rattle.text_faults.specs.private.Names.{scan_of, goes_to};
 
-use crate::showing::{octet_shown, said, shown};
+use crate::fronts::place_of;
+use crate::showing::{about_octet, about_word, about_words, said};
 use ldap_match::{Name, NameError, Schema, TypeId, equality_rule};
 use ldap_words::hex_octet;
 use std::alloc::{AllocError, Global};
@@ -146,7 +146,7 @@ fn bare_mark(value: &[u8]) -> Option<u8>
 }
 
 /// Where a reader of escapes is: outside them, behind a backslash, or behind a backslash and this octet.
-#[derive(Clone, Copy, PartialEq, Eq)]
+#[derive(Clone, Copy)]
 enum Escape {
     Outside,
     Begun,
@@ -194,24 +194,6 @@ fn has_bad_escape(text: &[u8]) -> bool
     }
 }
 
-/// A type whose values are in no name.
-fn lacks_equality(alloc: Global, name: &[u8]) -> Result<String, AllocError>
-    ensures { IfOk result (λ s. string_bytes s ≡ lacks_equality name.now) }
-{
-    let name = shown(alloc, name)?;
-    format!(in alloc; "'{name}' has no EQUALITY, which a part of a name needs")
-}
-
-#[tactic(auto, using(std::proofs::Common::append_assoc))]
-/// A value that is none of its type's.
-fn none_of_type(alloc: Global, name: &[u8], value: &[u8]) -> Result<String, AllocError>
-    ensures { IfOk result (λ s. string_bytes s ≡ none_of_type name.now value.now) }
-{
-    let name = shown(alloc, name)?;
-    let value = shown(alloc, value)?;
-    format!(in alloc; "'{value}' is no value of '{name}' in a name")
-}
-
 /// A value that is in no name for its type's sake.
 fn no_value(
     alloc: Global,
@@ -223,9 +205,14 @@ fn no_value(
     ensures { IfOk result (λ s. string_bytes s ≡ no_value schema.now type_id name.now value.now) }
 {
     if equality_rule(schema, type_id).is_none() {
-        return lacks_equality(alloc, name);
+        return about_word(
+            alloc,
+            "'",
+            name,
+            "' has no EQUALITY, which a part of a name needs",
+        );
     }
-    none_of_type(alloc, name, value)
+    about_words(alloc, "'", value, "' is no value of '", name, "' in a name")
 }
 
 /// An octet of a value that no backslash escapes.
@@ -233,8 +220,12 @@ fn unescaped(alloc: Global, octet: u8) -> Result<String, AllocError>
     ensures { IfOk result (λ s. string_bytes s ≡ codes "the '" ++ octet_shown octet ++ codes
         "' in a value comes behind a backslash") }
 {
-    let octet = octet_shown(alloc, octet)?;
-    format!(in alloc; "the '{octet}' in a value comes behind a backslash")
+    about_octet(
+        alloc,
+        "the '",
+        octet,
+        "' in a value comes behind a backslash",
+    )
 }
 
 /// A value of a type that is none of a name.
@@ -259,17 +250,6 @@ fn bad_value(
     }
 }
 
-#[tactic(auto, using(std::proofs::Common::append_assoc))]
-/// A pair that names no type of the schema.
-fn no_type(alloc: Global, pair: &[u8], name: &[u8]) -> Result<String, AllocError>
-    ensures { IfOk result (λ s. string_bytes s ≡ codes "no attribute type '" ++ word_shown name.now ++ codes
-        "' (in '" ++ word_shown (trimmed pair.now) ++ codes "')") }
-{
-    let whole = shown(alloc, trimmed(pair))?;
-    let name = shown(alloc, name)?;
-    format!(in alloc; "no attribute type '{name}' (in '{whole}')")
-}
-
 /// A name of a type and a value, which are no pair of a name.
 fn bad_named(
     alloc: Global,
@@ -282,24 +262,11 @@ fn bad_named(
 {
     match schema.find_octets(name) {
         Some(type_id) => bad_value(alloc, schema, type_id, name, value),
-        None => no_type(alloc, pair, name),
+        None => {
+            let whole = trimmed(pair);
+            about_words(alloc, "no attribute type '", name, "' (in '", whole, "')")
+        }
     }
-}
-
-/// A pair without a '='.
-fn no_pair(alloc: Global, pair: &[u8]) -> Result<String, AllocError>
-    ensures { IfOk result (λ s. string_bytes s ≡ codes "expected 'type=value', found '" ++ word_shown
-        (trimmed pair.now) ++ codes "'") }
-{
-    let whole = shown(alloc, trimmed(pair))?;
-    format!(in alloc; "expected 'type=value', found '{whole}'")
-}
-
-/// Where the first '=' of a pair is.
-fn equals_in(pair: &[u8]) -> Option<usize>
-    ensures { result ≡ position (λ octet. nat_eq octet 61) pair.now }
-{
-    pair.iter().position(|octet| *octet == b'=')
 }
 
 /// A pair whose escapes are right.
@@ -307,24 +274,13 @@ fn bad_cut(alloc: Global, schema: &Schema, pair: &[u8]) -> Result<String, AllocE
     ensures { IfOk result (λ s. string_bytes s ≡ bad_cut schema.now pair.now (position (λ octet. nat_eq octet 61)
         pair.now)) }
 {
-    match equals_in(pair) {
-        None => no_pair(alloc, pair),
+    match place_of(pair, b'=') {
+        None => about_word(alloc, "expected 'type=value', found '", trimmed(pair), "'"),
         Some(at) => {
             let (name, value) = (trimmed(&pair[..at]), trimmed(&pair[at + 1..]));
             bad_named(alloc, schema, pair, name, value)
         }
     }
-}
-
-/// A pair with a backslash that begins no escape.
-fn bad_escape(alloc: Global, pair: &[u8]) -> Result<String, AllocError>
-    ensures { IfOk result (λ s. string_bytes s ≡ codes "a backslash in '" ++ word_shown (trimmed pair.now) ++ codes
-        "' has no mark and no two hexadecimal digits behind it") }
-{
-    let whole = shown(alloc, trimmed(pair))?;
-    format!(in alloc;
-        "a backslash in '{whole}' has no mark and no two hexadecimal digits behind it"
-    )
 }
 
 /// A type and a value that are no part of a name.
@@ -335,28 +291,36 @@ fn bad_pair(alloc: Global, schema: &Schema, pair: &[u8]) -> Result<String, Alloc
         return said(alloc, "an empty part: expected 'type=value'");
     }
     if has_bad_escape(pair) {
-        return bad_escape(alloc, pair);
+        return about_word(
+            alloc,
+            "a backslash in '",
+            trimmed(pair),
+            "' has no mark and no two hexadecimal digits behind it",
+        );
     }
     bad_cut(alloc, schema, pair)
 }
 
-/// A relative name whose pairs are right.
-fn twice(alloc: Global, rdn: &[u8]) -> Result<String, AllocError>
-    ensures { IfOk result (λ s. string_bytes s ≡ codes "a type comes twice in '" ++ word_shown
-        (trimmed rdn.now) ++ codes "'") }
+/// The first part of a text, between such marks, that is no name.
+fn wrong_part<'a>(
+    alloc: Global,
+    schema: &Schema,
+    text: &'a [u8],
+    mark: u8,
+) -> Result<Option<&'a [u8]>, AllocError>
+    ensures { IfOk result (λ o. option_map (λ x. x.now) o ≡ first_wrong schema.now (parts_of mark text.now)) }
 {
-    let whole = shown(alloc, trimmed(rdn))?;
-    format!(in alloc; "a type comes twice in '{whole}'")
+    let parts = parts(alloc, text, mark)?;
+    first_wrong(alloc, schema, parts.as_slice())
 }
 
 /// A relative name that is none.
 fn bad_rdn(alloc: Global, schema: &Schema, rdn: &[u8]) -> Result<String, AllocError>
     ensures { IfOk result (λ s. string_bytes s ≡ bad_rdn schema.now rdn.now) }
 {
-    let pairs = parts(alloc, rdn, b'+')?;
-    match first_wrong(alloc, schema, pairs.as_slice())? {
+    match wrong_part(alloc, schema, rdn, b'+')? {
         Some(pair) => bad_pair(alloc, schema, pair),
-        None => twice(alloc, rdn),
+        None => about_word(alloc, "a type comes twice in '", trimmed(rdn), "'"),
     }
 }
 
@@ -364,8 +328,7 @@ fn bad_rdn(alloc: Global, schema: &Schema, rdn: &[u8]) -> Result<String, AllocEr
 fn no_name(alloc: Global, text: &[u8]) -> Result<String, AllocError>
     ensures { IfOk result (λ s. string_bytes s ≡ no_name text.now) }
 {
-    let whole = shown(alloc, text)?;
-    format!(in alloc; "'{whole}' is no name")
+    about_word(alloc, "'", text, "' is no name")
 }
 
 /// A text that isn't blank.
@@ -373,8 +336,7 @@ fn bad_name(alloc: Global, schema: &Schema, text: &[u8]) -> Result<String, Alloc
     ensures { IfOk result (λ s. string_bytes s ≡ bad_name_by schema.now text.now
         (first_wrong schema.now (parts_of 44 text.now))) }
 {
-    let rdns = parts(alloc, text, b',')?;
-    match first_wrong(alloc, schema, rdns.as_slice())? {
+    match wrong_part(alloc, schema, text, b',')? {
         Some(rdn) => bad_rdn(alloc, schema, rdn),
         None => no_name(alloc, text),
     }

@@ -149,6 +149,49 @@ pub fn shown(alloc: Global, octets: &[u8]) -> Result<String, AllocError>
     }
 }
 
+/// A sentence about a word of the text, with what is before the word and behind it.
+pub fn about_word(
+    alloc: Global,
+    before: &str,
+    word: &[u8],
+    behind: &str,
+) -> Result<String, AllocError>
+    ensures { IfOk result (λ s. string_bytes s ≡ before.now ++ word_shown word.now ++ behind.now) }
+{
+    let word = shown(alloc, word)?;
+    format!(in alloc; "{before}{word}{behind}")
+}
+
+/// A sentence about two words of the text, with what is before them, between them and behind them.
+pub fn about_words(
+    alloc: Global,
+    before: &str,
+    first: &[u8],
+    between: &str,
+    second: &[u8],
+    behind: &str,
+) -> Result<String, AllocError>
+    ensures { IfOk result (λ s. string_bytes s ≡ before.now ++ word_shown first.now ++ between.now ++ word_shown
+        second.now ++ behind.now) }
+{
+    let first = shown(alloc, first)?;
+    let second = shown(alloc, second)?;
+    format!(in alloc; "{before}{first}{between}{second}{behind}")
+}
+
+/// A sentence about an octet of the text, with what is before the octet and behind it.
+pub fn about_octet(
+    alloc: Global,
+    before: &str,
+    octet: u8,
+    behind: &str,
+) -> Result<String, AllocError>
+    ensures { IfOk result (λ s. string_bytes s ≡ before.now ++ octet_shown octet ++ behind.now) }
+{
+    let octet = octet_shown(alloc, octet)?;
+    format!(in alloc; "{before}{octet}{behind}")
+}
+
 /// An octet of a text as it is shown in a sentence: itself, or a backslash and two hexadecimal digits where it is no
 /// ASCII that prints.
 pub fn octet_shown(alloc: Global, octet: u8) -> Result<String, AllocError>
