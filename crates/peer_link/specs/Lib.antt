@@ -7,4 +7,5 @@ pub mod Past
 pub mod Refusals
 pub mod Saying
 pub mod Terms
+pub mod Turns
 pub mod private

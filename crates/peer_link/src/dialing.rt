@@ -1,4 +1,6 @@
 //! Dials another replica.
+ghost use Rattle.std.specs.Prelude.{◌≡◌, ◌≤◌, length, IfErr, IfOk, Ok};
+
 use crate::address::Address;
 use std::io;
 use std::io::{ErrorKind, Read, Write};
@@ -14,6 +16,13 @@ pub trait Dial {
 
     /// What has come back on the stream since it was asked last. It waits for nothing.
     fn hear(&mut self, stream: &Self::Stream) -> StreamState;
+}
+
+/// A stream that takes octets without waiting.
+pub trait WriteAtOnce {
+    /// Has the stream take of these octets what it can take at once; how many that are. It waits for nothing.
+    fn write_at_once(&mut self, octets: &[u8]) -> io::Result<usize>
+        ensures { IfOk result (λ count. count ≤ length octets.now) };
 }
 
 /// What has come back on a stream.
@@ -116,6 +125,29 @@ fn read_answers(mut stream: &TcpStream) -> StreamState {
             ErrorKind::WouldBlock | ErrorKind::Interrupted => StreamState::Nothing,
             _ => StreamState::End,
         },
+    }
+}
+
+/// How many octets a stream has taken that doesn't wait.
+fn count_taken(taken: io::Result<usize>) -> io::Result<usize>
+    ensures some { IfOk taken (λ count. result ≡ Ok count) }
+    ensures none { IfErr taken (λ _. IfOk result (λ count. count ≡ 0)) }
+{
+    match taken {
+        Ok(count) => Ok(count),
+        Err(error) => match error.kind() {
+            ErrorKind::WouldBlock | ErrorKind::Interrupted => Ok(0),
+            _ => Err(error),
+        },
+    }
+}
+
+impl WriteAtOnce for TcpStream {
+    fn write_at_once(&mut self, octets: &[u8]) -> io::Result<usize> {
+        self.set_nonblocking(true)?;
+        let taken = self.write(octets);
+        self.set_nonblocking(false)?;
+        count_taken(taken)
     }
 }
 

@@ -1,4 +1,4 @@
-//! What makes frames of items.
+//! What makes frames of items, or octets of short ones.
 use crate::dialing::REFUSAL;
 use bytes::Bytes;
 
@@ -26,4 +26,11 @@ pub trait Framing<T> {
 
     /// The other end has been silent for too long: its stream is closed, and another one is made.
     fn silent(&mut self);
+}
+
+/// Spells short items, in a thread that has put one and outside every lock.
+pub trait Spell<T> {
+    /// Puts the octets of an item behind these. An item that can't be spelled is lost, and this is told by whoever
+    /// spells.
+    fn spell(&mut self, item: T, octets: &mut Vec<u8>);
 }

@@ -1,7 +1,8 @@
-//! What waits is sent by a thread of its own: each item becomes frames here, which are written to a stream.
+//! What waits and isn't sent at once is sent by a thread of its own: each item becomes frames here, which are written
+//! to a stream.
 use crate::dialing::{Dial, StreamState};
 use crate::framing::Framing;
-use crate::outbox::{Outbox, Waited};
+use crate::outbox::{Outbox, Unsent, Waited};
 use replica_clock::{Backoff, KeepAlive, Lack};
 use std::alloc::Global;
 use std::io::{BufWriter, Write};
@@ -37,11 +38,6 @@ fn moment<R: Clock>(rt: &R, began: Option<Instant>) -> u64 {
     }
 }
 
-/// Gives a stream up, with what it hasn't taken.
-fn give_up<W: Write + Drop>(stream: BufWriter<W>) {
-    let (_stream, _unsent) = stream.into_parts();
-}
-
 /// Writes the greeting; whether the stream took it.
 fn greet<T, F: Framing<T>, W: Write>(framing: &mut F, stream: &mut W) -> bool {
     match framing.greeting() {
@@ -53,22 +49,16 @@ fn greet<T, F: Framing<T>, W: Write>(framing: &mut F, stream: &mut W) -> bool {
 }
 
 /// A new stream on which it is greeted, where one can be made now.
-fn dial_once<T, F: Framing<T>, D: Dial>(
-    alloc: Global,
-    framing: &mut F,
-    dialer: &mut D,
-) -> Option<BufWriter<D::Stream>> {
-    let stream = dialer.dial()?;
-    let mut stream = BufWriter::with_capacity(alloc, HELD_BACK, stream).ok()?;
+fn dial_once<T, F: Framing<T>, D: Dial>(framing: &mut F, dialer: &mut D) -> Option<D::Stream> {
+    let mut stream = dialer.dial()?;
     if greet(framing, &mut stream) {
         return Some(stream);
     }
-    give_up(stream);
     None
 }
 
 /// Forgets what waits. Where it is needed it comes again, as what the network loses.
-fn forget_waiting<R: Wait, T: Drop>(rt: &R, outbox: &Outbox<T>) {
+fn forget_waiting<R: Wait, T: Drop, S: Drop>(rt: &R, outbox: &Outbox<T, S>) {
     for _ in rt.forever() {
         let Some(_old) = outbox.take_waiting(rt) else {
             break;
@@ -80,17 +70,16 @@ fn forget_waiting<R: Wait, T: Drop>(rt: &R, outbox: &Outbox<T>) {
 /// than the other end may be silent isn't sent first once there is a stream again: it is forgotten.
 fn dial_and_greet<R: Wait + Clock, T: Drop, F: Framing<T>, D: Dial>(
     rt: &R,
-    alloc: Global,
-    outbox: &Outbox<T>,
+    outbox: &Outbox<T, D::Stream>,
     framing: &mut F,
     dialer: &mut D,
     silence: Duration,
-) -> Option<BufWriter<D::Stream>> {
+) -> Option<D::Stream> {
     let began = Instant::now(rt).ok();
     let mut backoff = Backoff::new();
     let mut lack = Lack::new(micros(silence));
     for _ in rt.forever() {
-        if let Some(stream) = dial_once(alloc, framing, dialer) {
+        if let Some(stream) = dial_once(framing, dialer) {
             return Some(stream);
         }
         if lack.look(true, moment(rt, began)) {
@@ -149,17 +138,42 @@ fn still_open<T, F: Framing<T>, D: Dial>(
     framing: &mut F,
     dialer: &mut D,
     keep_alive: &mut KeepAlive,
-    held: Option<BufWriter<D::Stream>>,
+    held: Option<D::Stream>,
     now: u64,
-) -> Option<BufWriter<D::Stream>> {
+) -> Option<D::Stream> {
     let mut stream = held?;
-    if listen(framing, dialer, keep_alive, stream.get_ref(), now)
-        && ask(keep_alive, &mut stream, now)
-    {
+    if listen(framing, dialer, keep_alive, &stream, now) && ask(keep_alive, &mut stream, now) {
         return Some(stream);
     }
-    give_up(stream);
     None
+}
+
+/// Writes what a stream hasn't taken at once; the stream, where it took that.
+fn finished<W: Write + Drop>(held: Option<W>, unsent: Option<Unsent>) -> Option<W> {
+    let mut stream = held?;
+    let Some(unsent) = unsent else {
+        return Some(stream);
+    };
+    if stream.write_all(unsent.rest()).is_ok() {
+        return Some(stream);
+    }
+    None
+}
+
+/// Waits for the next item, for no longer than a beat. Others may send on the stream meanwhile, unless it is new.
+fn next_item<R: Wait + Clock, T, W: Write + Drop>(
+    rt: &R,
+    outbox: &Outbox<T, W>,
+    stream: Option<W>,
+    is_new: bool,
+    beat: Duration,
+) -> (Waited<T>, Option<W>) {
+    if is_new {
+        let (waited, _, _) = outbox.take(rt, None, beat);
+        return (waited, stream);
+    }
+    let (waited, stream, unsent) = outbox.take(rt, stream, beat);
+    (waited, finished(stream, unsent))
 }
 
 /// Writes all frames of an item; whether the stream took them.
@@ -182,9 +196,9 @@ fn write_frames<R: Wait, T, F: Framing<T>, W: Write>(
 }
 
 /// Writes the frames of an item, and of those that wait behind it; whether the stream took them.
-fn write_waiting<R: Wait, T, F: Framing<T>, W: Write>(
+fn write_waiting<R: Wait, T, S: Drop, F: Framing<T>, W: Write>(
     rt: &R,
-    outbox: &Outbox<T>,
+    outbox: &Outbox<T, S>,
     framing: &mut F,
     stream: &mut W,
     item: T,
@@ -204,21 +218,24 @@ fn write_waiting<R: Wait, T, F: Framing<T>, W: Write>(
 }
 
 /// Writes an item, where there is one, and those that wait behind it; the stream, where it took them.
-fn sent<R: Wait, T, F: Framing<T>, W: Write + Drop>(
+fn sent<R: Wait, T: Drop, F: Framing<T>, W: Write + Drop>(
     rt: &R,
-    outbox: &Outbox<T>,
+    alloc: Global,
+    outbox: &Outbox<T, W>,
     framing: &mut F,
-    mut stream: BufWriter<W>,
+    stream: W,
     item: Option<T>,
-) -> Option<BufWriter<W>> {
+) -> Option<W> {
     let Some(item) = item else {
         return Some(stream);
     };
-    if write_waiting(rt, outbox, framing, &mut stream, item) {
+    let mut stream = BufWriter::with_capacity(alloc, HELD_BACK, stream).ok()?;
+    let is_taken = write_waiting(rt, outbox, framing, &mut stream, item);
+    let (stream, _unsent) = stream.into_parts();
+    if is_taken {
         return Some(stream);
     }
     framing.fail();
-    give_up(stream);
     None
 }
 
@@ -227,23 +244,25 @@ fn sent<R: Wait, T, F: Framing<T>, W: Write + Drop>(
 /// there is an item, and a greeting is first on each. Frames are made here, once there is a stream for them, and
 /// outside the queue's lock; those of items that wait together go out together. An item whose stream fails is lost,
 /// whole or in part, with those that were to go out with it, and so is the stream. So is what waits while no stream can
-/// be made for longer than the other end may be silent.
+/// be made for longer than the other end may be silent. While this waits, others send at once on the stream.
 pub fn send_all<R: Wait + Clock, T: Drop, F: Framing<T>, D: Dial>(
     rt: &R,
     alloc: Global,
-    outbox: &Outbox<T>,
+    outbox: &Outbox<T, D::Stream>,
     framing: &mut F,
     dialer: &mut D,
     times: LinkTimes,
 ) {
     let began = Instant::now(rt).ok();
     let mut keep_alive = KeepAlive::new(micros(times.beat), micros(times.silence));
-    let mut stream = dial_and_greet(rt, alloc, outbox, framing, dialer, times.silence);
+    let mut stream = dial_and_greet(rt, outbox, framing, dialer, times.silence);
     keep_alive.begin(moment(rt, began));
     // A new stream is looked at before the first item goes out on it: its other end may have turned it away.
     let mut is_new = true;
     for _ in rt.forever() {
-        let item = match outbox.take(rt, times.beat) {
+        let (waited, held) = next_item(rt, outbox, stream, is_new, times.beat);
+        stream = held;
+        let item = match waited {
             Waited::Item(item) => Some(item),
             Waited::Nothing => None,
             Waited::Stopped => break,
@@ -254,7 +273,7 @@ pub fn send_all<R: Wait + Clock, T: Drop, F: Framing<T>, D: Dial>(
             stream = still_open(framing, dialer, &mut keep_alive, stream, now);
         }
         if stream.is_none() {
-            stream = dial_and_greet(rt, alloc, outbox, framing, dialer, times.silence);
+            stream = dial_and_greet(rt, outbox, framing, dialer, times.silence);
             keep_alive.begin(moment(rt, began));
             is_new = true;
         } else if is_first {
@@ -263,6 +282,6 @@ pub fn send_all<R: Wait + Clock, T: Drop, F: Framing<T>, D: Dial>(
         let Some(open) = stream else {
             return;
         };
-        stream = sent(rt, outbox, framing, open, item);
+        stream = sent(rt, alloc, outbox, framing, open, item);
     }
 }

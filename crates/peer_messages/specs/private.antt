@@ -6,3 +6,4 @@ pub mod Errands
 pub mod Saying
 pub mod Links
 pub mod Reachability
+pub mod Short

@@ -23,7 +23,7 @@ pub use handler::MessageHandler;
 pub use linking::PeerThreads;
 pub use needed_threads::NeededThreads;
 pub use peer_messages::{
-    Address, Claim, Cluster, Counters, Lack, LinkTimes, Links, MessageFrames, Op, Outbox,
-    PeerMessage, PeerParts, PeerProgress, Reporter, Terms,
+    Address, Claim, Cluster, Counters, Lack, LinkTimes, Links, MessageFrames, Op, PeerMessage,
+    PeerOutbox, PeerParts, PeerProgress, Reporter, Terms,
 };
 pub use places::ReplicaAddresses;

@@ -2,8 +2,8 @@
 use crate::addresses::Addresses;
 use crate::fault::{Audience, ListenFailure, ServerError};
 use peer_threads::{
-    Address, Counters, LinkTimes, Links, NeededThreads, Op, Outbox, PeerMessage, PeerParts,
-    PeerProgress, ReplicaAddresses, Reporter, Terms,
+    Address, Cluster, Counters, LinkTimes, Links, NeededThreads, Op, PeerMessage, PeerOutbox,
+    PeerParts, PeerProgress, ReplicaAddresses, Reporter, Terms,
 };
 use server_monitor::{Logs, ProcessFiles, StartProgress};
 use session_pool::{Budget, Door, HasDoor, Limits};
@@ -19,10 +19,10 @@ const MESSAGES: usize = 1024;
 const WEIGHT: usize = 67_108_864;
 
 /// The queues to all replicas.
-fn outboxes(alloc: Global, count: usize) -> Result<Vec<Outbox<PeerMessage<Op>>>, AllocError> {
+fn outboxes(alloc: Global, count: usize) -> Result<Vec<PeerOutbox>, AllocError> {
     let mut boxes = Vec::new(alloc);
     for _ in 0..count {
-        boxes.push(Outbox::new(alloc, MESSAGES, WEIGHT)?)?;
+        boxes.push(PeerOutbox::new(alloc, MESSAGES, WEIGHT)?)?;
     }
     Ok(boxes)
 }
@@ -100,7 +100,7 @@ pub struct SharedParts {
     pub(crate) monitor_door: Door,
     pub(crate) client_door: Door,
     pub(crate) peer_door: Door,
-    pub(crate) boxes: Vec<Outbox<PeerMessage<Op>>>,
+    pub(crate) boxes: Vec<PeerOutbox>,
     pub uris: Vec<String>,
     pub needed_threads: NeededThreads,
     /// What is said on standard error.
@@ -158,6 +158,11 @@ impl SharedParts {
     /// Puts a message into the queue to the replica of this index: see `PeerParts::post`.
     pub fn post<R: Wait>(&self, rt: &R, to: u64, message: PeerMessage<Op>) {
         self.peer_parts().post(rt, to, message);
+    }
+
+    /// Sends what was posted, as far as it goes at once: see `PeerParts::send_posted`.
+    pub fn send_posted<R: Wait>(&self, rt: &R, alloc: Global, cluster: Cluster) {
+        self.peer_parts().send_posted(rt, alloc, cluster);
     }
 }
 

@@ -72,7 +72,7 @@ fn take_one(alloc: Global, listener: &TcpListener) -> io::Result<u8> {
 fn put_until<R: Wait + Clock>(
     rt: &R,
     alloc: Global,
-    outbox: &Outbox<Bytes>,
+    outbox: &Outbox<Bytes, TcpStream>,
     taken: &Signal,
 ) -> Result<(), AllocError> {
     for _ in rt.forever() {
@@ -102,7 +102,7 @@ fn take_two<R: Wait + Clock + Threads + Sync>(
     rt: &R,
     alloc: Global,
     listener: &TcpListener,
-    outbox: &Outbox<Bytes>,
+    outbox: &Outbox<Bytes, TcpStream>,
 ) -> io::Result<(u8, u8)> {
     let first = take_one(alloc, listener)?;
     let taken = Signal::new();
@@ -120,7 +120,7 @@ fn take_late<R: Wait + Clock>(
     rt: &R,
     alloc: Global,
     listener: &TcpListener,
-    outbox: &Outbox<Bytes>,
+    outbox: &Outbox<Bytes, TcpStream>,
 ) -> io::Result<(u8, u8)> {
     let first = take_one(alloc, listener)?;
     thread::sleep(rt, Duration::from_millis(1100));
@@ -129,7 +129,7 @@ fn take_late<R: Wait + Clock>(
 }
 
 /// Stops a link when this is done.
-fn and_stop<R: Wait, I, T>(rt: &R, outbox: &Outbox<I>, done: T) -> T {
+fn and_stop<R: Wait, I, S: Drop, T>(rt: &R, outbox: &Outbox<I, S>, done: T) -> T {
     outbox.stop(rt);
     done
 }
@@ -250,7 +250,7 @@ impl<'a, R: Wait> Dial for PaperDialer<'a, R> {
 struct InTwo<'a, R> {
     rt: &'a R,
     alloc: Global,
-    outbox: &'a Outbox<u8>,
+    outbox: &'a Outbox<u8, Paper<'a, R>>,
     left: [Option<u8>; 2],
 }
 
@@ -321,7 +321,7 @@ fn items_that_wait_go_out_in_one_write_outside_the_lock(rt: HostRuntime) -> Resu
 #[derive(Drop)]
 struct LateDialer<'a, R> {
     paper: PaperDialer<'a, R>,
-    outbox: &'a Outbox<u8>,
+    outbox: &'a Outbox<u8, Paper<'a, R>>,
     was_asked: bool,
 }
 
