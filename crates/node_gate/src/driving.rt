@@ -289,6 +289,7 @@ impl<'a, R: Wait, D: Device, J: JournalDevice, I: NodeIdentity> SharedNode<'a, R
         let called = held.called_since(prospect, is_certain);
         drop(held);
         self.waiters.wake(called);
+        peers.flush();
         if is_early {
             self.call_early(rt);
         }

@@ -6,8 +6,8 @@ ghost use Rattle.node_gate.specs.Sent.{TakesAll};
 
 use dir_node::{Op, PeerMessage, Send};
 
-/// What takes messages to other replicas. It is called inside the node's lock, in the order of the steps: so it never
-/// waits for a replica, and makes no frame. A message may be lost on its way.
+/// What takes messages to other replicas. `send` is called inside the node's lock, in the order of the steps: so it
+/// never waits for a replica, and makes no frame. A message may be lost on its way.
 pub trait Peers {
     // What is taken, for whom, and what the way is after it.
     ghost takes: { Self → ℕ → PeerMessage OpValue → Self → Type 0 };
@@ -15,6 +15,10 @@ pub trait Peers {
     /// Sends a message to the replica of this index.
     fn send(&mut self, to: u64, message: PeerMessage<Op>)
         ensures { takes self.old to message self.new };
+
+    /// Has go on their way the messages that were taken. It is called once the node's lock is free again, and waits for
+    /// no replica either.
+    fn flush(&self);
 }
 
 /// Hands over what a step sends, in the step's order.

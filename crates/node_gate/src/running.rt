@@ -253,6 +253,7 @@ impl<'a, R: Wait, D: Device, J: JournalDevice, I: NodeIdentity> SharedNode<'a, R
         let called = held.called_since(prospect, true);
         drop(held);
         self.waiters.wake(called);
+        peers.flush();
         (done, Moved { before, after })
     }
 
@@ -280,6 +281,7 @@ impl<'a, R: Wait, D: Device, J: JournalDevice, I: NodeIdentity> SharedNode<'a, R
         let called = held.called_since(prospect, true);
         drop(held);
         self.waiters.wake(called);
+        peers.flush();
         if is_early {
             self.call_early(rt);
         }
@@ -360,6 +362,7 @@ impl<'a, R: Wait, D: Device, J: JournalDevice, I: NodeIdentity> SharedNode<'a, R
         let called = held.called_since(prospect, false);
         drop(held);
         self.waiters.wake(called);
+        peers.flush();
         let moved = Moved { before, after };
         Some(Ticked {
             pulse,

@@ -1,12 +1,14 @@
 //! Messages on their way from the node to other replicas: each goes into the queue of its receiver.
 use node_gate::{Cluster, Op, Pace, PeerMessage, Peers, Send};
 use server_threads::SharedParts;
+use std::alloc::Global;
 use std::sync::{Mutex, Wait};
 
 /// The queues to all replicas of a cluster, and when state may be asked for again.
 #[derive(Drop)]
 pub struct PeerQueues<'a, R> {
     pub rt: &'a R,
+    pub alloc: Global,
     pub cluster: Cluster,
     pub shared_parts: &'a SharedParts,
     /// State isn't asked for again while its answer may be on its way.
@@ -23,6 +25,12 @@ impl<'a, R: Wait> PeerQueues<'a, R> {
             return;
         }
         self.shared_parts.post(self.rt, to, message);
+    }
+
+    /// Sends what was put into the queues, as far as it goes at once.
+    pub fn send_posted(&self) {
+        self.shared_parts
+            .send_posted(self.rt, self.alloc, self.cluster);
     }
 
     /// Puts what a start of the node sends into the queues.
@@ -46,5 +54,9 @@ impl<'a, R: Wait> Peers for PeerQueuesAt<'a, R> {
 
     fn send(&mut self, to: u64, message: PeerMessage<Op>) {
         self.peer_queues.post(self.now, to, message);
+    }
+
+    fn flush(&self) {
+        self.peer_queues.send_posted();
     }
 }

@@ -279,6 +279,7 @@ where
     };
     let peer_queues = PeerQueues {
         rt,
+        alloc,
         cluster,
         shared_parts,
         asking: Mutex::new(Pace::new(clock_times(&times))),

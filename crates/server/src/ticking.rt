@@ -168,6 +168,7 @@ impl<'a, 'r, R: Wait + Clock, I: NodeIdentity> TimedNode<'a, 'r, R, I> {
         if let Ok(sends) = copies(self.alloc, watch.beat.as_slice()) {
             let mut peer_queues = self.peer_queues_at(now);
             send_all(&mut peer_queues, sends);
+            self.peer_queues.send_posted();
         }
     }
 
