@@ -6,3 +6,4 @@ pub mod Given
 pub mod Handled
 pub mod Batches
 pub mod Waking
+pub mod Driving

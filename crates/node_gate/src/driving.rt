@@ -46,6 +46,11 @@ impl Drop for Batched {
     }
 }
 
+/// Whether a node notes nothing in its journal, whenever it hears this message.
+fn notes_nothing(message: &PeerMessage<Op>) -> bool {
+    matches!(message, PeerMessage::PrepareOk { .. })
+}
+
 /// Copies of what the event at this place has sent; none where there is none, or no memory.
 fn copies_at(alloc: Global, outputs: &[Given], place: Option<usize>) -> Option<Vec<Send<Op>>>
     ensures { IfSome result (λ c. sends_at place outputs.now ≡ Some c.items) }
@@ -135,9 +140,9 @@ impl<'a, R: Wait, D: Device, J: JournalDevice, I: NodeIdentity> SharedNode<'a, R
         self.held.lock(rt).node().is_caught_up()
     }
 
-    /// Hands an event to the node, or posts it where a thread drives the node; which of the events that were posted it
-    /// is, from 1 on, and 0 where none are. Its errors are the node's. For clauses alone it gives the event, and what
-    /// that made of the node where it wasn't posted.
+    /// Hands an event to the node, or posts it where another thread drives the node; which of the events that were
+    /// posted it is, from 1 on, and 0 where it wasn't. Its errors are the node's. For clauses alone it gives the event,
+    /// and what that made of the node where it wasn't posted.
     pub fn give<P: Peers>(
         &self,
         rt: &R,
@@ -155,7 +160,7 @@ impl<'a, R: Wait, D: Device, J: JournalDevice, I: NodeIdentity> SharedNode<'a, R
             (λ m. IfOk result.0 (λ number. number ≡ 0)) }
     {
         let given = Snapshot::of(&event);
-        match &self.inbox {
+        match self.inbox_to_post(rt) {
             Some(inbox) => {
                 let handed = Handed {
                     event: given,
@@ -168,6 +173,7 @@ impl<'a, R: Wait, D: Device, J: JournalDevice, I: NodeIdentity> SharedNode<'a, R
             }
             None => {
                 let (done, moved) = self.handle(rt, alloc, peers, event);
+                self.end_driving(rt, &done);
                 let handed = Handed {
                     event: given,
                     moved: Some(moved),
@@ -180,8 +186,43 @@ impl<'a, R: Wait, D: Device, J: JournalDevice, I: NodeIdentity> SharedNode<'a, R
         }
     }
 
-    /// Hands the message of another replica to the node, or posts it where a thread drives the node. For clauses alone
-    /// it gives what the message made of the node where it wasn't posted.
+    /// Where an event is to be posted; none where its thread hands it to the node, and ends that by `end_driving`.
+    fn inbox_to_post(&self, rt: &R) -> Option<&Inbox> {
+        let inbox = self.inbox.as_ref()?;
+        if inbox.begin_driving(rt) {
+            return None;
+        }
+        Some(inbox)
+    }
+
+    /// Where a message is to be posted; none where its thread hands it to the node, and ends that by `end_driving`.
+    fn inbox_to_post_message(&self, rt: &R, message: &PeerMessage<Op>) -> Option<&Inbox> {
+        if notes_nothing(message) {
+            return self.inbox_to_post(rt);
+        }
+        self.inbox.as_ref()
+    }
+
+    /// A thread that has brought an event has handed it to the node, with this result.
+    fn end_driving(&self, rt: &R, done: &Result<(), NodeError>) {
+        if let Some(inbox) = &self.inbox {
+            if let Err(error) = done {
+                if *error != NodeError::NoMemory {
+                    inbox.fail(rt, *error);
+                }
+            }
+            inbox.end_driving(rt);
+        }
+    }
+
+    /// Why the node has stopped, where it did so at an event that no thread of its own has handed to it.
+    pub fn failure(&self, rt: &R) -> Option<NodeError> {
+        self.inbox.as_ref()?.failure(rt)
+    }
+
+    /// Hands the message of another replica to the node, or posts it where another thread drives the node, or where the
+    /// node may note something of it in its journal: a disk that hangs holds up nobody who reads messages. For clauses
+    /// alone it gives what the message made of the node where it wasn't posted.
     pub fn give_message<P: Peers>(
         &self,
         rt: &R,
@@ -198,13 +239,14 @@ impl<'a, R: Wait, D: Device, J: JournalDevice, I: NodeIdentity> SharedNode<'a, R
             m.after.value peers.old peers.new)) }
         ensures posted { IfNone result.1 (peers.new ≡ peers.old) }
     {
-        match &self.inbox {
+        match self.inbox_to_post_message(rt, &arrival.message) {
             Some(inbox) => match inbox.post_message(rt, arrival) {
                 Ok(_) => (Ok(()), None),
                 Err(error) => (Err(error), None),
             },
             None => {
                 let (done, moved) = self.hear(rt, alloc, peers, arrival);
+                self.end_driving(rt, &done);
                 (done, Some(moved))
             }
         }

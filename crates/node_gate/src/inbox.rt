@@ -1,11 +1,12 @@
 //! Events that wait for the thread that drives a node with a journal: it takes all of them at once, so that one sync
-//! settles them all.
+//! settles them all. An event that comes while none waits and nobody drives doesn't wait: its thread drives with it.
 use crate::arrival::Arrival;
+use crate::drivers::{Driver, is_called, may_drive};
 use dir_node::{Event, NodeError, Op};
 use replica_clock::{Sign, sign_of};
 use std::alloc::{AllocError, Global};
 use std::mem;
-use std::sync::{Condvar, Mutex, Wait};
+use std::sync::{Condvar, Mutex, MutexGuard, Wait};
 
 /// How many events wait, at most: who brings one more waits until there is room.
 const EVENTS: usize = 4_096;
@@ -76,7 +77,22 @@ impl EventBatch {
 #[derive(Drop)]
 struct Waiting {
     batch: EventBatch,
+    driver: Driver,
+    /// Why the node has stopped, where it did so at an event that was brought and not posted.
+    failure: Option<NodeError>,
     is_stopping: bool,
+}
+
+impl Waiting {
+    /// Whether the thread is called for what waits.
+    fn is_called(&self) -> bool {
+        is_called(self.driver, self.batch.events.len())
+    }
+
+    /// Whether nobody is to take events any more.
+    fn has_ended(&self) -> bool {
+        self.is_stopping || self.failure.is_some()
+    }
 }
 
 /// Events that wait, with a condition that is told when some came, and one that is told when they were taken.
@@ -102,6 +118,8 @@ impl Inbox {
         Inbox {
             waiting: Mutex::new(Waiting {
                 batch: EventBatch::new(alloc, 0),
+                driver: Driver::Nobody,
+                failure: None,
                 is_stopping: false,
             }),
             came: Condvar::new(),
@@ -118,8 +136,7 @@ impl Inbox {
             return Err(NodeError::Halted);
         }
         let number = waiting.batch.push(event)?;
-        drop(waiting);
-        self.came.notify_all();
+        self.call_for(waiting);
         Ok(number)
     }
 
@@ -132,8 +149,7 @@ impl Inbox {
             return Err(NodeError::Halted);
         }
         let number = waiting.batch.push_message(arrival)?;
-        drop(waiting);
-        self.came.notify_all();
+        self.call_for(waiting);
         Ok(number)
     }
 
@@ -145,18 +161,61 @@ impl Inbox {
         } else {
             waiting.batch.push(Event::Suspect).is_ok()
         };
+        self.call_for(waiting);
+    }
+
+    /// Calls the thread for what waits, where it is to look at that now.
+    fn call_for(&self, waiting: MutexGuard<'_, Waiting>) {
+        let is_called = waiting.is_called();
         drop(waiting);
+        if is_called {
+            self.came.notify_all();
+        }
+    }
+
+    /// Whether a thread that brings an event drives the node with it: none waits, and nobody drives. It ends that by
+    /// `end_driving`.
+    pub fn begin_driving<R: Wait>(&self, rt: &R) -> bool {
+        let mut waiting = self.waiting.lock(rt);
+        let drives = !waiting.is_stopping && may_drive(waiting.driver, waiting.batch.events.len());
+        if drives {
+            waiting.driver = Driver::Bringer;
+        }
+        drives
+    }
+
+    /// A thread that has brought an event drives no more: the node's own thread is called for what came meanwhile.
+    pub fn end_driving<R: Wait>(&self, rt: &R) {
+        let mut waiting = self.waiting.lock(rt);
+        waiting.driver = Driver::Nobody;
+        self.call_for(waiting);
+    }
+
+    /// The node has stopped at an event that was brought.
+    pub fn fail<R: Wait>(&self, rt: &R, failure: NodeError) {
+        self.waiting.lock(rt).failure = Some(failure);
         self.came.notify_all();
     }
 
-    /// All events that wait, once there are some; none where nobody is to take events any more.
+    /// Why the node has stopped, where it did so at an event that was brought.
+    pub fn failure<R: Wait>(&self, rt: &R) -> Option<NodeError> {
+        self.waiting.lock(rt).failure.take()
+    }
+
+    /// All events that wait, once there are some and nobody else drives; none where nobody is to take events any more.
+    /// The thread that takes them drives until it comes back for more.
     pub fn take<R: Wait>(&self, rt: &R, alloc: Global) -> Option<EventBatch> {
-        let mut waiting = self.came.wait_while(rt, self.waiting.lock(rt), |waiting| {
-            waiting.batch.events.is_empty() && !waiting.is_stopping
+        let mut waiting = self.waiting.lock(rt);
+        if waiting.driver == Driver::Thread {
+            waiting.driver = Driver::Nobody;
+        }
+        let mut waiting = self.came.wait_while(rt, waiting, |waiting| {
+            !waiting.is_called() && !waiting.has_ended()
         });
-        if waiting.is_stopping {
+        if waiting.has_ended() {
             return None;
         }
+        waiting.driver = Driver::Thread;
         let next = EventBatch::new(alloc, waiting.batch.last);
         let batch = mem::replace(&mut waiting.batch, next);
         drop(waiting);

@@ -7,7 +7,7 @@
 //! its look. Under the lock an event goes to the node, the seats are shown what is executed, and the step's messages go
 //! into the queues (`Peers`). Then those who wait are woken. The role is one atomic word (`standing`), read without the
 //! lock. The thread of the clock rests on a lock of its own (`rest`). With a journal, events wait in an `inbox`, and
-//! one thread takes all of them as one batch (`driving`).
+//! one thread takes all of them as one batch (`driving`), unless the thread that brings one may drive (`drivers`).
 //!
 //! A lock tells no state of what it holds, but the node's identity never changes. So a type parameter stands for it
 //! (`NodeIdentity`): it is picked in the proof of the call that shares the opened node.
@@ -21,6 +21,7 @@
 
 mod arrival;
 mod beats;
+mod drivers;
 mod driving;
 mod ending;
 mod events;

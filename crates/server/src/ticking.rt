@@ -334,6 +334,14 @@ impl<'a, 'r, R: Wait + Clock, I: NodeIdentity> TimedNode<'a, 'r, R, I> {
         is_caught_up
     }
 
+    /// Why no events are taken any more.
+    fn end_of_driving(&self) -> Result<(), ServerError> {
+        match self.running.failure(self.rt) {
+            Some(error) => Err(fault_of_node(error)),
+            None => Ok(()),
+        }
+    }
+
     /// A batch was handled that began at this moment.
     fn note_batch(&self, began: u64) {
         let time = Duration::from_micros(self.now().saturating_sub(began));
@@ -482,7 +490,7 @@ where
         let mut was_caught_up = self.resumed.is_none();
         for _ in self.rt.forever() {
             let Some(batch) = self.running.next_batch(self.rt, self.alloc) else {
-                break;
+                return self.end_of_driving();
             };
             let now = self.now();
             let mut peer_queues = self.peer_queues_at(now);
