@@ -177,7 +177,7 @@ impl Inbox {
     /// `end_driving`.
     pub fn begin_driving<R: Wait>(&self, rt: &R) -> bool {
         let mut waiting = self.waiting.lock(rt);
-        let drives = !waiting.is_stopping && may_drive(waiting.driver, waiting.batch.events.len());
+        let drives = !waiting.has_ended() && may_drive(waiting.driver, waiting.batch.events.len());
         if drives {
             waiting.driver = Driver::Bringer;
         }
