@@ -247,14 +247,14 @@ impl<'a, R: Wait> Dial for PaperDialer<'a, R> {
 /// Greets by 200. Makes two frames of each number below 100, the number and 100 more; of 7 none. As it begins with 1 it puts 9 into the queue itself, which would
 /// wait for ever if the queue's lock were held.
 #[derive(Drop)]
-struct InTwo<'a, R> {
-    rt: &'a R,
+struct InTwo<'b, 'a, R> {
+    rt: &'b R,
     alloc: Global,
-    outbox: &'a Outbox<u8, Paper<'a, R>>,
+    outbox: &'b Outbox<u8, Paper<'a, R>>,
     left: [Option<u8>; 2],
 }
 
-impl<'a, R: Wait> Framing<u8> for InTwo<'a, R> {
+impl<'b, 'a, R: Wait> Framing<u8> for InTwo<'b, 'a, R> {
     fn greeting(&mut self) -> Option<Bytes> {
         Bytes::from_vec(vec![in self.alloc; 200].ok()?).ok()
     }
@@ -287,9 +287,9 @@ impl<'a, R: Wait> Framing<u8> for InTwo<'a, R> {
 
 #[test]
 fn items_that_wait_go_out_in_one_write_outside_the_lock(rt: HostRuntime) -> Result<(), Fail> {
-    let outbox = Outbox::new(rt.alloc(), 8, 1000)?;
     let written = Mutex::new(Vec::new(rt.alloc()));
     let whole = Signal::new();
+    let outbox = Outbox::new(rt.alloc(), 8, 1000)?;
     for number in [1u8, 2, 7, 3] {
         outbox.put(&rt, number, 1);
     }
@@ -319,13 +319,13 @@ fn items_that_wait_go_out_in_one_write_outside_the_lock(rt: HostRuntime) -> Resu
 
 /// Makes no stream at first; then one, once 3 was put into the queue.
 #[derive(Drop)]
-struct LateDialer<'a, R> {
+struct LateDialer<'b, 'a, R> {
     paper: PaperDialer<'a, R>,
-    outbox: &'a Outbox<u8, Paper<'a, R>>,
+    outbox: &'b Outbox<u8, Paper<'a, R>>,
     was_asked: bool,
 }
 
-impl<'a, R: Wait> Dial for LateDialer<'a, R> {
+impl<'b, 'a, R: Wait> Dial for LateDialer<'b, 'a, R> {
     type Stream = Paper<'a, R>;
 
     fn dial(&mut self) -> Option<Paper<'a, R>> {
@@ -344,9 +344,9 @@ impl<'a, R: Wait> Dial for LateDialer<'a, R> {
 
 #[test]
 fn what_waits_too_long_for_a_stream_is_forgotten(rt: HostRuntime) -> Result<(), Fail> {
-    let outbox = Outbox::new(rt.alloc(), 8, 1000)?;
     let written = Mutex::new(Vec::new(rt.alloc()));
     let whole = Signal::new();
+    let outbox = Outbox::new(rt.alloc(), 8, 1000)?;
     for number in [4u8, 5] {
         outbox.put(&rt, number, 1);
     }
