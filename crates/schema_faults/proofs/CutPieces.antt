@@ -1,5 +1,5 @@
 -- Pieces between spaces, found from the front.
-use Rattle.std.proofs.Common.{◌≡◌, ◌++◌, ℕ, ◌+◌, ◌<◌, ◌≤◌, List, [], ◌∷◌, Bool, true, false, cond, drop, length, get_or, refl, ap, sym, ◌∙◌, append_assoc, add-one, arith}
+use Rattle.std.proofs.Common.{◌≡◌, ◌++◌, ℕ, ◌+◌, ◌<◌, ◌≤◌, List, [], ◌∷◌, true, false, drop, length, get_or, refl, ap, sym, ◌∙◌, append_assoc, add-one, arith}
 use Rattle.std.specs.List.{slice_range}
 use Rattle.std.proofs.Math.Seq.{drop-cons}
 use Rattle.std.proofs.lemmas.List.{drop_all}

@@ -2,3 +2,4 @@ pub mod CutPieces
 pub mod Ordering
 pub mod Reaching
 pub mod Again
+pub mod Sentences

@@ -1,8 +1,8 @@
 -- Classes that are reached one after the other, and the ways back to the first. Facts on lists come in and go out; no
 -- value of the program is here.
-use Rattle.std.proofs.Common.{◌≡◌, ◌++◌, ◌<◌, ◌≤◌, ◌≢◌, ◌⊎◌, inl, inr, ℕ, zero, suc, ◌+◌, List, [], ◌∷◌, Bool, true, false, cond, ◌||◌, ◌&&◌, Option, None, Some, option_map, length, get_or, set, slice_get, refl, sym, ap, ◌∙◌, subst, nat_eq, reverse, length-append, below_more, arith}
+use Rattle.std.proofs.Common.{◌≡◌, ◌++◌, ◌<◌, ◌≤◌, ◌⊎◌, inl, inr, ℕ, ◌+◌, List, [], ◌∷◌, Bool, true, false, cond, ◌||◌, ◌&&◌, Option, None, Some, option_map, length, get_or, set, slice_get, refl, sym, ap, ◌∙◌, subst, nat_eq, reverse, length-append, below_more, arith}
 use Rattle.std.specs.List.{list_any, position_from, sum_by}
-use Rattle.std.proofs.lemmas.List.{reverse-append, get_or_append_left, get_or_default, get_or_past, get_or-set_same, get_or-set_other, set-get_or, length-set}
+use Rattle.std.proofs.lemmas.List.{reverse-append, get_or_append_left, get_or_default, get_or_past, get_or-set_other, set-get_or, length-set}
 use Rattle.std.proofs.lemmas.Option.{slice_get_within, get_or_from_slice_get, slice_get-get_or}
 use Rattle.std.proofs.lemmas.List.Sums.{sum_by-set}
 use Rattle.std.proofs.lemmas.Bool.Decides.{leb_tells, eqb_tells}

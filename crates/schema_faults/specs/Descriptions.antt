@@ -1,6 +1,6 @@
 -- What is wrong with the form of a line that is no description (RFC 4512 4.1.1, 4.1.2): the line comes in, a sentence
 -- goes out.
-use Rattle.std.specs.Prelude.{◌++◌, ◌||◌, ◌&&◌, ℕ, ◌+◌, ◌-◌, List, [], ◌∷◌, Bool, true, false, not, nat_eq, nat_le, cond, codes, decimal, length, take, drop, position, is_none, unwrap_or, Option, None, Some}
+use Rattle.std.specs.Prelude.{◌++◌, ◌||◌, ◌&&◌, ℕ, ◌+◌, ◌-◌, List, [], ◌∷◌, Bool, true, false, not, nat_eq, nat_le, cond, codes, decimal, length, take, drop, is_none, unwrap_or, Option, None, Some}
 use Rattle.std.specs.Str.{bytes_eq}
 use Rattle.schema_meaning.specs.ldap_words.Octets.{is_empty}
 use Rattle.schema_meaning.specs.schema_text.Words.{is_same_word, is_numericoid, ends_with}
@@ -12,6 +12,7 @@ use Rattle.schema_faults.specs.declared.pieces.Scan.TheVariants as scan
 use Rattle.schema_faults.specs.declared.pieces.Stop.{Stop}
 use Rattle.schema_faults.specs.Forms.{FormModel, form_of, is_elsewhere}
 use Rattle.schema_faults.specs.Pieces.{stop_in, is_outside, pieces_of}
+use Rattle.text_faults.specs.Scripts.{first_word}
 use Rattle.text_faults.specs.Words.{word_shown}
 
 -- what stands before the descriptions of a kind
@@ -22,15 +23,6 @@ heading lines.Classes = codes "objectClasses: "
 -- what is behind a heading, in any case; none, where the line has another front
 abbrev pub behind : List ℕ → List ℕ → Option (List ℕ)
 behind front line = cond (is_same_word front (take (length front) line)) (Some (drop (length front) line)) None
-
--- octets up to this index, or all
-abbrev pub up_to : List ℕ → Option ℕ → List ℕ
-up_to octets None = octets
-up_to octets (Some index) = take index octets
-
--- the front of a line, up to its first space
-abbrev pub first_word : List ℕ → List ℕ
-first_word line = up_to line (position (nat_eq 32) line)
 
 -- a line that begins with another word
 abbrev pub other_front : List ℕ → List ℕ

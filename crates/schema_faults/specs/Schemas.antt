@@ -1,6 +1,6 @@
 -- What is wrong with a description among the others of a schema (RFC 4512 4.1): the descriptions come in, a sentence
 -- goes out.
-use Rattle.std.specs.Prelude.{◌++◌, ℕ, List, [], Bool, false, cond, codes, is_none, slice_get, Option, None, Some}
+use Rattle.std.specs.Prelude.{◌++◌, ℕ, List, cond, codes, is_none, slice_get, Option, None, Some}
 use Rattle.std.specs.List.{filter}
 use Rattle.ldap_match.specs.ldap_schema.Schema.{first_name_of}
 use Rattle.schema_meaning.specs.Naming.{names_of, find}

@@ -1,10 +1,10 @@
 //! A line of a schema's text that is no description: what is wrong with its form (RFC 4512 4.1.1, 4.1.2).
-ghost use Rattle.std.specs.Prelude.{◌≡◌, ◌<◌, ◌+◌, ◌-◌, ◌^◌, false, IfOk, IfSome, None, Some, map, take, drop, length, nat_eq, position, option_map, string_bytes};
+ghost use Rattle.std.specs.Prelude.{◌≡◌, ◌<◌, ◌+◌, ◌-◌, ◌^◌, false, IfOk, IfSome, None, Some, map, take, drop, length, nat_eq, option_map, string_bytes};
 ghost use Rattle.schema_meaning.specs.ldap_words.Octets.{is_empty};
 ghost use Rattle.schema_meaning.specs.schema_text.Words.{ends_with};
 ghost use Rattle.schema_faults.specs.private.Forms.{form_model};
 ghost use Rattle.schema_faults.specs.Pieces.{pieces_of};
-ghost use Rattle.schema_faults.specs.Descriptions.{heading, behind, up_to, first_word, other_front, no_heading, bad_escape, bad_parenthesis, misplaced};
+ghost use Rattle.schema_faults.specs.Descriptions.{heading, behind, no_heading, bad_escape, bad_parenthesis, misplaced};
 ghost use Rattle.schema_faults.specs.Descriptions.{unended, unbalanced, line_with, is_field, other_owner, is_unsupported, misplaced_word, unsupported_word};
 ghost use Rattle.schema_faults.specs.Descriptions.{unknown_word, no_keyword, nothing_follows, another_follows, bad_argument, second_kind, too_late};
 ghost use Rattle.schema_faults.specs.declared.forms.Lines.TheVariants as kind;
@@ -16,7 +16,7 @@ use crate::pieces::{Scan, Stop, is_outside, pieces_of, stop_in};
 use ldap_words::{is_numericoid, is_same_word};
 use schema_meaning::read_text;
 use std::alloc::{AllocError, Global};
-use text_faults::{said, shown};
+use text_faults::{about_word, first_word, said, shown};
 
 /// What stands before the descriptions of a kind.
 fn heading(lines: Lines) -> &'static [u8]
@@ -61,31 +61,6 @@ fn behind<'a>(heading: &[u8], line: &'a [u8]) -> Option<&'a [u8]>
     }
 }
 
-/// Where a line has its first space.
-fn space(line: &[u8]) -> Option<usize>
-    ensures { result ≡ position (nat_eq 32) line.now }
-{
-    line.iter().position(|octet| b' ' == *octet)
-}
-
-/// The front of a line, up to its first space.
-fn first_word(line: &[u8]) -> &[u8]
-    ensures { result.now ≡ first_word line.now }
-{
-    match space(line) {
-        Some(index) => front(line, index),
-        None => line,
-    }
-}
-
-/// A line that begins with another word.
-fn other_front(alloc: Global, line: &[u8]) -> Result<String, AllocError>
-    ensures { IfOk result (λ s. string_bytes s ≡ other_front line.now) }
-{
-    let word = shown(alloc, first_word(line))?;
-    format!(in alloc; "expected 'attributeTypes: ' or 'objectClasses: ' at the front, not '{word}'")
-}
-
 /// A line that is headed neither as a type nor as a class.
 fn no_heading(alloc: Global, line: &[u8]) -> Result<String, AllocError>
     ensures { IfOk result (λ s. string_bytes s ≡ no_heading line.now) }
@@ -95,7 +70,12 @@ fn no_heading(alloc: Global, line: &[u8]) -> Result<String, AllocError>
             alloc,
             "the line begins with a space: a description is one line, whole",
         ),
-        _ => other_front(alloc, line),
+        _ => about_word(
+            alloc,
+            "expected 'attributeTypes: ' or 'objectClasses: ' at the front, not '",
+            first_word(line),
+            "'",
+        ),
     }
 }
 
@@ -213,17 +193,14 @@ fn pieces_fault(alloc: Global, lines: Lines, octets: &[u8]) -> Result<String, Al
             if is_numericoid(first) {
                 return fields_fault(alloc, lines, rest);
             }
-            no_identifier(alloc, first)
+            about_word(
+                alloc,
+                "expected an object identifier, as 2.5.4.3, not '",
+                first,
+                "'",
+            )
         }
     }
-}
-
-/// A piece that is no object identifier.
-fn no_identifier(alloc: Global, piece: &[u8]) -> Result<String, AllocError>
-    ensures { IfOk result (λ s. string_bytes s ≡ no_identifier piece.now) }
-{
-    let word = shown(alloc, piece)?;
-    format!(in alloc; "expected an object identifier, as 2.5.4.3, not '{word}'")
 }
 
 /// What is wrong with the fields of a description.
@@ -280,29 +257,11 @@ fn is_unsupported(word: &[u8]) -> bool
     is_same_word(b"COLLECTIVE", word) || is_same_word(b"NO-USER-MODIFICATION", word)
 }
 
-/// A keyword of the other kind of line.
-fn misplaced_word(alloc: Global, lines: Lines, word: &[u8]) -> Result<String, AllocError>
-    ensures { IfOk result (λ s. string_bytes s ≡ misplaced_word lines word.now) }
-{
-    let mut text = shown(alloc, word)?;
-    text.push_str(other_owner(lines))?;
-    Ok(text)
-}
-
 /// A keyword that is not read.
 fn unsupported_word(alloc: Global, word: &[u8]) -> Result<String, AllocError>
     ensures { IfOk result (λ s. string_bytes s ≡ unsupported_word word.now) }
 {
-    let word = shown(alloc, word)?;
-    format!(in alloc; "{word} is not supported")
-}
-
-/// A word that is no keyword at all.
-fn unknown_word(alloc: Global, word: &[u8]) -> Result<String, AllocError>
-    ensures { IfOk result (λ s. string_bytes s ≡ unknown_word word.now) }
-{
-    let word = shown(alloc, word)?;
-    format!(in alloc; "expected a keyword, not '{word}'")
+    about_word(alloc, "", word, " is not supported")
 }
 
 /// A word that is no keyword of such a line.
@@ -310,12 +269,12 @@ fn no_keyword(alloc: Global, lines: Lines, word: &[u8]) -> Result<String, AllocE
     ensures { IfOk result (λ s. string_bytes s ≡ no_keyword lines word.now) }
 {
     if is_elsewhere(lines, word) {
-        return misplaced_word(alloc, lines, word);
+        return about_word(alloc, "", word, other_owner(lines));
     }
     if is_unsupported(word) {
         return unsupported_word(alloc, word);
     }
-    unknown_word(alloc, word)
+    about_word(alloc, "expected a keyword, not '", word, "'")
 }
 
 /// A keyword that needs a piece behind it, and has none.

@@ -11,13 +11,13 @@ use crate::schemas::numbered_line;
 use ldap_match::{Schema, TypeId, equality_rule, ordering_rule, substrings_rule};
 use ldap_words::is_oid;
 use std::alloc::{AllocError, Global};
-use text_faults::{colon, front_of, said, shown};
+use text_faults::{about_word, colon, front_of, said, shown};
 
 /// What a line of an index choice is.
 const LINE: &str = "expected a type, a colon and kinds of index, as in 'cn: eq sub'";
 
 /// The keyword of a rule that a kind of index needs.
-#[derive(Clone, Copy, Debug, PartialEq, Eq)]
+#[derive(Clone, Copy)]
 enum RuleKeyword {
     Equality,
     Ordering,
@@ -62,8 +62,12 @@ fn no_kind(alloc: Global, word: &[u8]) -> Result<String, AllocError>
             "one space comes before each kind, and none at the end",
         );
     }
-    let word = shown(alloc, word)?;
-    format!(in alloc; "no kind of index '{word}': there are pres, eq, ord and sub")
+    about_word(
+        alloc,
+        "no kind of index '",
+        word,
+        "': there are pres, eq, ord and sub",
+    )
 }
 
 /// The first word that is no kind of index.
@@ -107,8 +111,12 @@ fn bad_parts(alloc: Global, name: &[u8], kinds: &[u8]) -> Result<String, AllocEr
     if is_oid(name) {
         return bad_kinds(alloc, kinds);
     }
-    let name = shown(alloc, name)?;
-    format!(in alloc; "'{name}' is no name of a type and no object identifier")
+    about_word(
+        alloc,
+        "'",
+        name,
+        "' is no name of a type and no object identifier",
+    )
 }
 
 /// A line with its first colon here, or without one.
@@ -158,31 +166,6 @@ fn lacking(schema: &Schema, type_id: TypeId, kind: &[u8]) -> Option<RuleKeyword>
     None
 }
 
-/// A kind that a type has no rule for.
-fn no_index(alloc: Global, kind: &[u8]) -> Result<String, AllocError>
-    ensures { IfOk result (λ s. string_bytes s ≡ no_index kind.now) }
-{
-    let kind = shown(alloc, kind)?;
-    format!(in alloc; "no index '{kind}'")
-}
-
-/// The type of a name, which has no rule of the keyword behind it.
-fn without(alloc: Global, name: &[u8]) -> Result<String, AllocError>
-    ensures { IfOk result (λ s. string_bytes s ≡ without name.now) }
-{
-    let name = shown(alloc, name)?;
-    format!(in alloc; " of '{name}': the type has no ")
-}
-
-/// The type of a name, which has no rule of this keyword.
-fn of_type(alloc: Global, name: &[u8], keyword: RuleKeyword) -> Result<String, AllocError>
-    ensures { IfOk result (λ s. string_bytes s ≡ of_type name.now keyword) }
-{
-    let mut sentence = without(alloc, name)?;
-    sentence.push_str(keyword_word(keyword))?;
-    Ok(sentence)
-}
-
 /// A kind for which the type of a name has no rule of this keyword.
 fn no_rule(
     alloc: Global,
@@ -192,17 +175,17 @@ fn no_rule(
 ) -> Result<String, AllocError>
     ensures { IfOk result (λ s. string_bytes s ≡ no_rule name.now kind.now keyword) }
 {
-    let front = no_index(alloc, kind)?;
-    let rest = of_type(alloc, name, keyword)?;
-    format!(in alloc; "{front}{rest}")
+    let kind = shown(alloc, kind)?;
+    let name = shown(alloc, name)?;
+    let word = keyword_word(keyword);
+    format!(in alloc; "no index '{kind}' of '{name}': the type has no {word}")
 }
 
 /// A type that lacks a rule for one of its kinds.
 fn lacks_some(alloc: Global, name: &[u8]) -> Result<String, AllocError>
     ensures { IfOk result (λ s. string_bytes s ≡ lacks_some name.now) }
 {
-    let title = shown(alloc, name)?;
-    format!(in alloc; "'{title}' lacks a rule for one of its kinds")
+    about_word(alloc, "'", name, "' lacks a rule for one of its kinds")
 }
 
 /// The first kind whose rule a type lacks.
@@ -240,15 +223,6 @@ fn no_rule_of(
     first_no_rule(alloc, schema, type_id, name, kinds.as_slice())
 }
 
-/// A line that names a type that the schema lacks: E13.
-fn no_type(alloc: Global, name: &[u8]) -> Result<String, AllocError>
-    ensures { IfOk result (λ s. string_bytes s ≡ codes "no attribute type '" ++ word_shown name.now ++ codes
-        "' in the schema") }
-{
-    let name = shown(alloc, name)?;
-    format!(in alloc; "no attribute type '{name}' in the schema")
-}
-
 /// What is wrong with a line that is refused so.
 fn line_fault(
     alloc: Global,
@@ -261,7 +235,12 @@ fn line_fault(
     let name = front_of(line);
     match refusal {
         IndexRefusal::BadDescription => bad_line(alloc, line),
-        IndexRefusal::UnknownName => no_type(alloc, name),
+        IndexRefusal::UnknownName => about_word(
+            alloc,
+            "no attribute type '",
+            name,
+            "' in the schema",
+        ),
         IndexRefusal::NoRule => no_rule_of(alloc, schema, name, kinds_in(line)),
     }
 }

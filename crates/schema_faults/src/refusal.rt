@@ -1,7 +1,7 @@
 //! Which rule a text breaks, as its refusal's number says. Lines are told beside it.
 
 /// Why a text is no schema.
-#[derive(Clone, Copy, Debug, PartialEq, Eq)]
+#[derive(Clone, Copy)]
 pub enum SchemaRefusal {
     /// E12: the line is no description, or one that is bad beside the others.
     BadDescription,
@@ -14,7 +14,7 @@ pub enum SchemaRefusal {
 }
 
 /// Why a text is no index choice.
-#[derive(Clone, Copy, Debug, PartialEq, Eq)]
+#[derive(Clone, Copy)]
 pub enum IndexRefusal {
     /// E12: the line is no type with kinds of index.
     BadDescription,

@@ -5,6 +5,7 @@ ghost use Rattle.std.specs.Char.{to_ascii_lowercase};
 ghost use Rattle.std.specs.Str.{bytes_eq};
 ghost use Rattle.schema_meaning.specs.private.Octets.{number_at};
 ghost use Rattle.schema_meaning.specs.Naming.{find, names_of};
+ghost use Rattle.ldap_match.specs.ldap_schema.Schema.{first_name_of};
 ghost use Rattle.schema_faults.specs.Schemas.{title};
 ghost use Rattle.schema_faults.specs.Repeats.{in_line, line_if_before, line_before, earlier_line, oid_of_line, name_of_line};
 ghost use Rattle.schema_faults.specs.Repeats.{earlier_name, again, given_twice, repeated};
@@ -13,7 +14,7 @@ use ldap_words::lower_case;
 use schema_meaning::{Called, Description, IndexedText, names};
 use std::alloc::{AllocError, Global};
 use std::collections::BTreeMap;
-use text_faults::shown;
+use text_faults::{about_word, shown};
 
 /// The description that stands in a line, with its number.
 pub fn at_line(descriptions: &[Description], line: usize) -> Option<(usize, &Description)>
@@ -28,13 +29,20 @@ pub fn at_line(descriptions: &[Description], line: usize) -> Option<(usize, &Des
 }
 
 /// The first name of a description, or its object identifier.
+pub fn first_name(description: &Description) -> &[u8]
+    ensures { result.now ≡ first_name_of description.now.oid (names_of description.now) }
+{
+    match names(description) {
+        [first, ..] => first.as_slice(),
+        [] => description.oid(),
+    }
+}
+
+/// The same, as it is shown.
 pub fn title(alloc: Global, description: &Description) -> Result<String, AllocError>
     ensures { IfOk result (λ s. string_bytes s ≡ title description.now) }
 {
-    match names(description) {
-        [first, ..] => shown(alloc, first.as_slice()),
-        [] => shown(alloc, description.oid()),
-    }
+    shown(alloc, first_name(description))
 }
 
 /// The description that a word calls.
@@ -174,8 +182,7 @@ fn given_twice(alloc: Global, name: &[u8]) -> Result<String, AllocError>
     ensures { IfOk result (λ s. string_bytes s ≡ given_twice name.now) }
 {
     let folded = lower_case(alloc, name)?;
-    let word = shown(alloc, folded.as_slice())?;
-    format!(in alloc; "the name '{word}' is given twice")
+    about_word(alloc, "the name '", folded.as_slice(), "' is given twice")
 }
 
 /// A name that stands twice in one description.

@@ -12,13 +12,13 @@ ghost use Rattle.schema_faults.specs.SchemaFaults.{lacks_equality, no_equality, 
 
 use crate::descriptions::line_fault;
 use crate::refusal::SchemaRefusal;
-use crate::repeats::{at_line, repeated, title};
+use crate::repeats::{at_line, first_name, repeated};
 use crate::rules::unfit;
 use crate::{loops, unknown};
 use schema_meaning::{Description, Effect, Effects, IndexedText, Keyword, SchemaText, read_text};
 use schema_text::lines;
 use std::alloc::{AllocError, Global};
-use text_faults::{said, shown};
+use text_faults::{about_word, about_words, said};
 
 /// The line of an index; nothing, where there is none.
 fn line_in<'a>(lines: &[&'a [u8]], index: usize) -> &'a [u8]
@@ -145,23 +145,27 @@ fn loop_at(alloc: Global, text: &IndexedText, line: usize) -> Result<String, All
     }
 }
 
-/// A type without EQUALITY, under another without one.
-fn none_inherited(alloc: Global, title: &str, superior: &[u8]) -> Result<String, AllocError>
-    ensures { IfOk result (λ s. string_bytes s ≡ lacks_equality title.now (Some superior.now)) }
-{
-    let above = shown(alloc, superior)?;
-    format!(in alloc; "'{title}' has no EQUALITY, and none by its SUP '{above}'")
-}
-
 /// A type without EQUALITY.
 fn lacks_equality(alloc: Global, description: &Description) -> Result<String, AllocError>
     ensures { IfOk result (λ s. string_bytes s ≡ lacks_equality (title description.now)
         (first_text_at 4 description.now.fields)) }
 {
-    let title = title(alloc, description)?;
+    let name = first_name(description);
     match description.text(Keyword::Sup) {
-        Some(word) => none_inherited(alloc, title.as_str(), word),
-        None => format!(in alloc; "'{title}' has no EQUALITY, and no SUP to have it from"),
+        Some(superior) => about_words(
+            alloc,
+            "'",
+            name,
+            "' has no EQUALITY, and none by its SUP '",
+            superior,
+            "'",
+        ),
+        None => about_word(
+            alloc,
+            "'",
+            name,
+            "' has no EQUALITY, and no SUP to have it from",
+        ),
     }
 }
 

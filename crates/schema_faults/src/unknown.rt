@@ -13,22 +13,6 @@ use schema_meaning::{Called, Description, IndexedText, Keyword};
 use std::alloc::{AllocError, Global};
 use text_faults::{said, shown};
 
-/// A word of a kind that is not there.
-fn no_such(alloc: Global, kind: &str, word: &[u8]) -> Result<String, AllocError>
-    ensures { IfOk result (λ s. string_bytes s ≡ no_such kind.now word.now) }
-{
-    let word = shown(alloc, word)?;
-    format!(in alloc; "no {kind} '{word}'")
-}
-
-/// Where a description names it: behind a keyword.
-fn named_in(alloc: Global, description: &Description, keyword: &str) -> Result<String, AllocError>
-    ensures { IfOk result (λ s. string_bytes s ≡ named_in description.now keyword.now) }
-{
-    let title = title(alloc, description)?;
-    format!(in alloc; " (in {keyword} of '{title}')")
-}
-
 /// Something of a kind that is not there, which a description names behind a keyword.
 fn missing(
     alloc: Global,
@@ -39,10 +23,9 @@ fn missing(
 ) -> Result<String, AllocError>
     ensures { IfOk result (λ s. string_bytes s ≡ missing description.now kind.now word.now keyword.now) }
 {
-    let mut sentence = no_such(alloc, kind, word)?;
-    let rest = named_in(alloc, description, keyword)?;
-    sentence.push_str(rest.as_str())?;
-    Ok(sentence)
+    let word = shown(alloc, word)?;
+    let title = title(alloc, description)?;
+    format!(in alloc; "no {kind} '{word}' (in {keyword} of '{title}')")
 }
 
 /// The first of words that calls none of these.

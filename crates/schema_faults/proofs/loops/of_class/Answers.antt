@@ -1,6 +1,6 @@
 -- What search doesn't prove of `of_class`: `loop-class-preserved`, `loop-class-smaller` and what it returns, by lemmas
 -- of `Reaching`.
-use Rattle.std.proofs.Common.{◌≡◌, ◌+◌, ◌<◌, ℕ, List, [], false, None, inr, ap, sym, ◌∙◌, length, option_map, slice_get, string_bytes, arith}
+use Rattle.std.proofs.Common.{◌≡◌, ◌+◌, ◌<◌, [], false, None, inr, ap, sym, ◌∙◌, length, option_map, slice_get, string_bytes, arith}
 use Rattle.std.proofs.lemmas.Result.{IfOk-weaker}
 use Rattle.schema_faults.specs.declared.loops.Step.{Step}
 use Rattle.schema_faults.specs.Loops.{is_right_above, way_sentence, IsClassLoop}

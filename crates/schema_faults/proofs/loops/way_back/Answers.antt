@@ -1,9 +1,9 @@
 -- What search doesn't prove of `way_back`: `loop-place-init`, `loop-place-preserved` and what it returns, by lemmas of
 -- `Reaching`.
-use Rattle.std.proofs.Common.{◌≡◌, ◌++◌, ◌∷◌, [], ℕ, List, ap, ◌∙◌, refl, reverse, get_or, string_bytes, arith}
+use Rattle.std.proofs.Common.{◌≡◌, ◌++◌, ◌∷◌, [], ℕ, List, ap, ◌∙◌, refl, reverse, string_bytes, arith}
 use Rattle.std.proofs.lemmas.Result.{IfOk-weaker}
 use Rattle.schema_faults.specs.Loops.{way_sentence, IsWayOf}
-use Rattle.schema_faults.specs.private.Reaching.{class_at, nowhere}
+use Rattle.schema_faults.specs.private.Reaching.{class_at}
 use Rattle.schema_faults.proofs.Reaching.{way_first, way_more, from_within, way_done}
 use Rattle.schema_faults.proofs.loops.way_back.Goals as goal
 

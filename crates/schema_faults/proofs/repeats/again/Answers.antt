@@ -1,6 +1,6 @@
 -- What search doesn't prove of `again`: `loop-name-init`, `loop-name-preserved` and what it returns, by lemmas of
 -- `Again`.
-use Rattle.std.proofs.Common.{◌≡◌, ◌+◌, ℕ, Bool, true, false, List, [], ◌∷◌, ◌++◌, Some, Vec, Global, cond, is_some, ap, sym, ◌∙◌, map, take, drop, refl}
+use Rattle.std.proofs.Common.{◌≡◌, ◌+◌, ℕ, true, false, List, [], ◌∷◌, ◌++◌, Some, Vec, Global, cond, is_some, ap, sym, ◌∙◌, map, take, drop, refl}
 use Rattle.std.specs.Char.{to_ascii_lowercase}
 use Rattle.std.specs.Str.{bytes_eq}
 use Rattle.schema_meaning.specs.Naming.{is_name_among}
