@@ -1,5 +1,5 @@
 -- The first element of a list that is the same as one before it, an element at a time.
-use Rattle.std.proofs.Common.{ℕ, ◌+◌, ◌<◌, suc, List, [], ◌∷◌, ◌++◌, Bool, true, false, cond, ◌||◌, Option, None, Some, ◌≡◌, refl, ap, sym, ◌∙◌, map, length, take, drop, drop-cons, add-one, get_or}
+use Rattle.std.proofs.Common.{ℕ, ◌+◌, ◌<◌, suc, List, [], ◌∷◌, ◌++◌, Bool, true, false, cond, ◌||◌, Option, Some, ◌≡◌, refl, ap, sym, ◌∙◌, map, length, take, drop, drop-cons, add-one, get_or}
 use Rattle.std.specs.List.{list_any}
 use Rattle.std.proofs.lemmas.List.{take_more, map-append}
 use Rattle.std.proofs.lemmas.List.Folds.{list_any-append}

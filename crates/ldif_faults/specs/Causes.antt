@@ -1,5 +1,5 @@
 -- What is wrong with a line of LDIF (RFC 2849): a text, the line's number and the cause come in, a sentence goes out.
-use Rattle.std.specs.Prelude.{◌++◌, ◌||◌, ℕ, ◌+◌, List, [], ◌∷◌, Bool, not, nat_eq, nat_lt, cond, codes, decimal, drop, slice_get, Option, None, Some}
+use Rattle.std.specs.Prelude.{◌++◌, ◌||◌, ℕ, ◌+◌, List, [], ◌∷◌, Bool, not, nat_eq, nat_lt, codes, decimal, drop, slice_get, Option, None, Some}
 use Rattle.std.specs.List.{filter, last_or, position, prefix_len}
 use Rattle.std.specs.Option.{unwrap_or}
 use Rattle.std.specs.Char.{is_ascii_alphanumeric}

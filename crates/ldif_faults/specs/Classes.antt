@@ -1,7 +1,7 @@
 -- Which rule of its classes a record of LDIF breaks (RFC 4512 2.4): a schema and the record come in, a line's number
 -- and a sentence go out. The types of the name's first part count as given.
-use Rattle.std.specs.Prelude.{◌++◌, ◌||◌, ◌&&◌, ℕ, ◌+◌, ◌-◌, List, [], ◌∷◌, Bool, false, true, not, nat_eq, nat_lt, cond, codes, drop, is_none, length, map, slice_get, zero, suc, Option, None, Some}
-use Rattle.std.specs.List.{filter, last_or, list_any}
+use Rattle.std.specs.Prelude.{◌++◌, ◌&&◌, ℕ, ◌+◌, List, [], ◌∷◌, Bool, false, true, not, nat_eq, nat_lt, cond, codes, is_none, length, map, slice_get, zero, suc, Option, None, Some}
+use Rattle.std.specs.List.{filter, last_or}
 use Rattle.std.specs.Option.{option_to_list, unwrap_or}
 use Rattle.ldap_match.specs.ldap_schema.Lines.{are_all_in_line}
 use Rattle.ldap_match.specs.ldap_schema.Schema.{SchemaModel, TypeModel, ClassModel, find, class_named, class_name, first_name_of, type_at}

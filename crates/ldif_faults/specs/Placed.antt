@@ -1,5 +1,5 @@
 -- A record of LDIF with its lines (RFC 2849), and a sentence with its line.
-use Rattle.std.specs.Prelude.{ℕ, ◌+◌, List, [], ◌∷◌, slice_get, slice_index_or, Option, None, Some}
+use Rattle.std.specs.Prelude.{ℕ, ◌+◌, List, [], ◌∷◌, slice_index_or, Option, None, Some}
 use Rattle.ldif.specs.Records.{ValueModel, RecordModel}
 
 -- a value, with the number of its line, counted from 1

@@ -1,6 +1,6 @@
 -- What is wrong with a record of LDIF whose add a directory refuses (RFC 4511 4.7): a schema, a text, the record's
 -- number and a result code come in, a line's number and a sentence go out.
-use Rattle.std.specs.Prelude.{◌++◌, ℕ, ◌-◌, List, [], nat_eq, cond, codes, slice_get, Option, None, Some}
+use Rattle.std.specs.Prelude.{◌++◌, ℕ, ◌-◌, List, [], nat_eq, cond, codes, slice_get}
 use Rattle.std.specs.declared.result.Result.{Result}
 use Rattle.std.specs.declared.result.Result.TheVariants.{Ok, Err}
 use Rattle.std.specs.Option.{unwrap_or}

@@ -1,5 +1,5 @@
 -- Which value of a record of LDIF a result code is given for, and what is wrong with it (RFC 4511 4.7, appendix A.2).
-use Rattle.std.specs.Prelude.{◌++◌, ◌&&◌, ℕ, ◌+◌, ◌-◌, List, [], ◌∷◌, Bool, false, true, not, nat_eq, cond, codes, decimal, length, map, is_none, slice_get, Option, None, Some}
+use Rattle.std.specs.Prelude.{◌++◌, ◌&&◌, ℕ, ◌+◌, ◌-◌, List, [], ◌∷◌, Bool, false, not, nat_eq, cond, codes, decimal, length, map, is_none, slice_get, Option, None, Some}
 use Rattle.std.specs.List.{filter, list_any}
 use Rattle.std.specs.Option.{unwrap_or}
 use Rattle.std.specs.Str.{bytes_eq, is_utf8}

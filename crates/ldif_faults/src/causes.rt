@@ -7,7 +7,7 @@ ghost use Rattle.ldif_faults.specs.Causes.{no_record, first_line, open_before, s
 
 use ldif::{LdifCause, line_at, record_lines};
 use std::alloc::{AllocError, Global};
-use text_faults::{colon, front_of, octet_shown, said, shown};
+use text_faults::{about_octet, about_word, colon, front_of, said};
 
 /// Whether an octet is a digit of base64 or fills its end.
 fn is_base64(octet: u8) -> bool
@@ -38,8 +38,7 @@ fn bad_base64_by(alloc: Global, octet: Option<u8>) -> Result<String, AllocError>
             "no base64: its end is cut, badly filled by '=', or has bits left over",
         );
     };
-    let octet = octet_shown(alloc, octet)?;
-    format!(in alloc; "'{octet}' is no digit of base64")
+    about_octet(alloc, "'", octet, "' is no digit of base64")
 }
 
 /// How many spaces are before a value.
@@ -78,24 +77,26 @@ fn bad_base64(alloc: Global, line: &[u8]) -> Result<String, AllocError>
 fn no_colon(alloc: Global, line: &[u8]) -> Result<String, AllocError>
     ensures { IfOk result (λ s. string_bytes s ≡ no_colon line.now) }
 {
-    let line = shown(alloc, line)?;
-    format!(in alloc; "expected 'type: value', found '{line}'")
+    about_word(alloc, "expected 'type: value', found '", line, "'")
 }
 
 /// A line whose front is no attribute description.
 fn no_description(alloc: Global, line: &[u8]) -> Result<String, AllocError>
     ensures { IfOk result (λ s. string_bytes s ≡ no_description line.now) }
 {
-    let word = shown(alloc, front_of(line))?;
-    format!(in alloc; "'{word}' is no attribute's name")
+    about_word(alloc, "'", front_of(line), "' is no attribute's name")
 }
 
 /// A value outside records.
 fn no_record(alloc: Global, line: &[u8]) -> Result<String, AllocError>
     ensures { IfOk result (λ s. string_bytes s ≡ no_record line.now) }
 {
-    let word = shown(alloc, front_of(line))?;
-    format!(in alloc; "expected 'dn:', not '{word}:': a record begins with its name")
+    about_word(
+        alloc,
+        "expected 'dn:', not '",
+        front_of(line),
+        ":': a record begins with its name",
+    )
 }
 
 /// The first line of a record; 0, where it has none.

@@ -1,21 +1,22 @@
 //! Finds which rule of its classes a record of LDIF breaks (RFC 4512 2.4). The types of the name's first part count as
 //! given.
-ghost use Rattle.std.specs.Prelude.{◌≡◌, ◌++◌, ◌||◌, ◌&&◌, ℕ, None, IfOk, OnOk, codes, false, length, map, nat_eq, nat_lt, option_map, slice_get, slice_index_or, string_bytes};
+ghost use Rattle.std.specs.Prelude.{◌≡◌, ◌++◌, ◌||◌, ◌&&◌, ℕ, [], None, IfOk, OnOk, codes, false, length, map, nat_eq, nat_lt, option_map, slice_get, slice_index_or, string_bytes};
 ghost use Rattle.std.specs.List.{filter, last_or, list_any};
-ghost use Rattle.ldap_match.specs.ldap_schema.Schema.{find, type_at};
+ghost use Rattle.std.specs.Option.{unwrap_or};
+ghost use Rattle.ldap_match.specs.ldap_schema.Schema.{class_name, find, type_at};
 ghost use Rattle.ldap_match.specs.ldap_schema.Superclasses.{is_among};
 ghost use Rattle.ldif_faults.specs.Placed as placed;
 ghost use Rattle.ldif_faults.specs.Values.{first_line, is_number};
 ghost use Rattle.ldif_faults.specs.Classes.{class_in, classes_in, classes_of, is_unknown_class, unknown_class, types_in, given, has, types_of};
-ghost use Rattle.ldif_faults.specs.Classes.{required_of, allowed_in, allowed, is_structural_in, structural, title_in, type_title, class_title, lacks, missing, first_missing, foreign};
+ghost use Rattle.ldif_faults.specs.Classes.{required_of, allowed_in, allowed, is_structural_in, structural, title_in, lacks, missing, first_missing, foreign};
 ghost use Rattle.ldif_faults.specs.Classes.{not_allowed, at_line_or, foreign_by, bad_types, by_chain, demanded_by, demanded, broken_class};
 
-use crate::placed::{Placed, PlacedRecord, ValueLine, at_line, at_name};
+use crate::placed::{Placed, PlacedRecord, ValueLine, at_line, at_name, said_at_name};
 use crate::values::{is_object_class, name_in, no_class, own_pairs};
 use ldap_match::{ClassId, ClassKind, Schema, TypeAndValue, TypeId};
 use std::alloc::{AllocError, Global};
 use std::marker::Model;
-use text_faults::{said, shown};
+use text_faults::{about_word, about_words};
 
 /// The class that a line names.
 fn class_in(schema: &Schema, line: &ValueLine<'_>) -> Option<ClassId>
@@ -287,20 +288,13 @@ fn title_in(schema: &Schema, type_id: TypeId) -> &str
     }
 }
 
-/// The first name of a type, as it is shown.
-fn type_title(alloc: Global, schema: &Schema, type_id: TypeId) -> Result<String, AllocError>
-    ensures { IfOk result (λ s. string_bytes s ≡ type_title schema.now type_id) }
-{
-    shown(alloc, title_in(schema, type_id).as_bytes())
-}
-
-/// The first name of a class, as it is shown.
-fn class_title(alloc: Global, schema: &Schema, class: ClassId) -> Result<String, AllocError>
-    ensures { IfOk result (λ s. string_bytes s ≡ class_title schema.now class) }
+/// The first name of a class; nothing, where there is none.
+fn name_of_class(schema: &Schema, class: ClassId) -> &str
+    ensures { result.now ≡ unwrap_or (class_name schema.now class) [] }
 {
     match schema.class_name(class) {
-        Some(name) => shown(alloc, name.as_bytes()),
-        None => shown(alloc, b""),
+        Some(name) => name,
+        None => "",
     }
 }
 
@@ -325,9 +319,14 @@ fn missing(
 ) -> Result<String, AllocError>
     ensures { IfOk result (λ s. string_bytes s ≡ missing schema.now type_id class) }
 {
-    let needed = type_title(alloc, schema, type_id)?;
-    let class = class_title(alloc, schema, class)?;
-    format!(in alloc; "no value of '{needed}', which the class '{class}' requires")
+    about_words(
+        alloc,
+        "no value of '",
+        title_in(schema, type_id).as_bytes(),
+        "', which the class '",
+        name_of_class(schema, class).as_bytes(),
+        "' requires",
+    )
 }
 
 /// The first type that a class requires and a record lacks.
@@ -364,8 +363,12 @@ fn foreign(types: &TypeSet, others: &TypeSet) -> Option<TypeId>
 fn not_allowed(alloc: Global, schema: &Schema, type_id: TypeId) -> Result<String, AllocError>
     ensures { IfOk result (λ s. string_bytes s ≡ not_allowed schema.now type_id) }
 {
-    let title = type_title(alloc, schema, type_id)?;
-    format!(in alloc; "'{title}' is allowed by none of the entry's classes")
+    about_word(
+        alloc,
+        "'",
+        title_in(schema, type_id).as_bytes(),
+        "' is allowed by none of the entry's classes",
+    )
 }
 
 /// Whether this is the type.
@@ -403,17 +406,6 @@ fn at_line_or(item: &PlacedRecord<'_>, sentence: String, line: Option<&ValueLine
         Some(line) => at_line(line, sentence),
         None => at_name(item, sentence),
     }
-}
-
-/// A sentence of the whole record that shows no word of it.
-fn said_at_name(
-    alloc: Global,
-    item: &PlacedRecord<'_>,
-    sentence: &str,
-) -> Result<Placed, AllocError>
-    ensures { IfOk result (λ p. p ≡ placed.at_name item.now sentence.now) }
-{
-    Ok(at_name(item, said(alloc, sentence)?))
 }
 
 /// A type that none of the classes allows, at its first value, or no type.

@@ -5,6 +5,7 @@ ghost use Rattle.ldif_faults.specs.Placed as placed;
 use ldif::{AttributeValue, Record};
 use std::alloc::{AllocError, Global};
 use std::marker::Model;
+use text_faults::said;
 
 /// A sentence, and the line that it is of.
 pub struct Placed {
@@ -204,6 +205,17 @@ pub fn at_name(item: &PlacedRecord<'_>, sentence: String) -> Placed
     ensures { result ≡ placed.at_name item.now (string_bytes sentence) }
 {
     Placed::new(item.number(), sentence)
+}
+
+/// A sentence of the whole record that shows no word of it.
+pub fn said_at_name(
+    alloc: Global,
+    item: &PlacedRecord<'_>,
+    sentence: &str,
+) -> Result<Placed, AllocError>
+    ensures { IfOk result (λ p. p ≡ placed.at_name item.now sentence.now) }
+{
+    Ok(at_name(item, said(alloc, sentence)?))
 }
 
 /// A sentence of a value.

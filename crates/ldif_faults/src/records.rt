@@ -9,24 +9,13 @@ ghost use Rattle.ldif_faults.specs.Placed as placed;
 ghost use Rattle.ldif_faults.specs.Records.{told_above, told, all_read, records_in, nothing, placed_at, record_told};
 
 use crate::classes::broken_class;
-use crate::placed::{Placed, PlacedRecord, at_name};
+use crate::placed::{Placed, PlacedRecord, at_name, said_at_name};
 use crate::values::{by_code, doubled, no_value, repeated, unknown_type};
 use ldap_match::Schema;
 use ldif::{LdifError, Record, read, record_lines};
 use std::alloc::{AllocError, Global};
 use std::marker::Model;
-use text_faults::{name_fault, said};
-
-/// A sentence of the whole record that shows no word of it.
-fn said_at_name(
-    alloc: Global,
-    item: &PlacedRecord<'_>,
-    sentence: &str,
-) -> Result<Placed, AllocError>
-    ensures { IfOk result (λ p. p ≡ placed.at_name item.now sentence.now) }
-{
-    Ok(at_name(item, said(alloc, sentence)?))
-}
+use text_faults::name_fault;
 
 /// A name that is none.
 fn invalid_name(alloc: Global, schema: &Schema, text: &str) -> Result<String, AllocError>

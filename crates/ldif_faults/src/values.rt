@@ -21,7 +21,7 @@ use ldap_match::{
 use ldap_words::is_same_word;
 use std::alloc::{AllocError, Global};
 use std::collections::BTreeSet;
-use text_faults::{code_word, said, shown};
+use text_faults::{about_word, code_word, said, shown};
 
 /// What a code says alone.
 pub fn by_code(alloc: Global, item: &PlacedRecord<'_>, code: u32) -> Result<Placed, AllocError>
@@ -53,8 +53,12 @@ fn first_unknown<'a, 'v>(schema: &Schema, lines: &'a [ValueLine<'v>]) -> Option<
 fn no_type(alloc: Global, line: &ValueLine<'_>) -> Result<String, AllocError>
     ensures { IfOk result (λ s. string_bytes s ≡ no_type line.now) }
 {
-    let word = shown(alloc, line.description())?;
-    format!(in alloc; "no attribute type '{word}' in the schema")
+    about_word(
+        alloc,
+        "no attribute type '",
+        line.description(),
+        "' in the schema",
+    )
 }
 
 /// A value whose type the schema lacks: 17.
@@ -182,8 +186,12 @@ fn first_repeat<'a, 'v>(
 fn second_value(alloc: Global, line: &ValueLine<'_>) -> Result<String, AllocError>
     ensures { IfOk result (λ s. string_bytes s ≡ second_value line.now) }
 {
-    let word = shown(alloc, line.description())?;
-    format!(in alloc; "a second value of '{word}', which is SINGLE-VALUE")
+    about_word(
+        alloc,
+        "a second value of '",
+        line.description(),
+        "', which is SINGLE-VALUE",
+    )
 }
 
 /// The types and values of the last relative name, which is the entry's own.
@@ -292,8 +300,12 @@ fn first_named_otherwise<'a, 'v>(
 fn named_otherwise(alloc: Global, line: &ValueLine<'_>) -> Result<String, AllocError>
     ensures { IfOk result (λ s. string_bytes s ≡ named_otherwise line.now) }
 {
-    let word = shown(alloc, line.description())?;
-    format!(in alloc; "'{word}' is SINGLE-VALUE, and the name gives it another value")
+    about_word(
+        alloc,
+        "'",
+        line.description(),
+        "' is SINGLE-VALUE, and the name gives it another value",
+    )
 }
 
 /// A record whose values have no SINGLE-VALUE type twice.
@@ -498,8 +510,7 @@ pub fn is_object_class(schema: &Schema, line: &ValueLine<'_>) -> bool
 pub fn no_class(alloc: Global, name: &[u8]) -> Result<String, AllocError>
     ensures { IfOk result (λ s. string_bytes s ≡ no_class name.now) }
 {
-    let name = shown(alloc, name)?;
-    format!(in alloc; "no object class '{name}' in the schema")
+    about_word(alloc, "no object class '", name, "' in the schema")
 }
 
 /// What follows a value that is none of its type.

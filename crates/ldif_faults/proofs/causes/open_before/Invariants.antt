@@ -1,4 +1,4 @@
-use Rattle.std.proofs.Common.{◌≡◌, None, drop, map, nat_lt}
+use Rattle.std.proofs.Common.{◌≡◌, drop, map, nat_lt}
 use Rattle.std.specs.List.{filter, last_or}
 use Rattle.std.specs.Option.{option_map}
 use Rattle.ldif_faults.specs.Causes.{first_line, open_before}

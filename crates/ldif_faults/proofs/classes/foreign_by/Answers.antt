@@ -1,5 +1,5 @@
 -- What search doesn't prove of `foreign_by`: what it returns, step by step.
-use Rattle.std.proofs.Common.{Some, ap, option_map, string_bytes, sym, ◌∙◌}
+use Rattle.std.proofs.Common.{ap, option_map, sym, ◌∙◌}
 use Rattle.ldap_match.specs.ldap_schema.Schema.{find}
 use Rattle.ldif_faults.specs.Values.{first_line, is_number}
 use Rattle.ldif_faults.specs.Classes.{not_allowed, at_line_or, foreign_by}
