@@ -8,3 +8,4 @@ mod logged;
 mod logging;
 
 pub use logged::Logged;
+pub use text_faults::one_line;

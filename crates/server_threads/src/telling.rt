@@ -1,11 +1,11 @@
 //! What a server says of its sessions and of its end, a line an event.
 use crate::fault::ServerError;
+use logged_directory::one_line;
 use server_monitor::Reporter;
 use session_pool::{Away, SessionEnd};
 use std::alloc::{AllocError, Global};
 use std::net::SocketAddr;
 use std::sync::Wait;
-use text_faults::one_line;
 
 /// Why a session ended, where it ended badly.
 fn fault_of(end: SessionEnd) -> Option<&'static str> {
