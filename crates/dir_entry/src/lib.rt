@@ -24,4 +24,6 @@ pub use ldap_match::{
     ordering_rule, parts_compare, print_before, print_behind, print_from_leaf, substrings_rule,
     substrings_test, tests_are_items, texts_tell,
 };
-pub use shared_map::{Cursor, NumberSet, NumberWalk, Octets, Shared, SharedMap, Sought, Walk};
+pub use shared_map::{
+    Cursor, NumberSet, NumberWalk, Octets, Shared, SharedMap, Sought, ValueChange, Walk,
+};

@@ -1,10 +1,11 @@
 -- Rising lists of numbers, with one more and with one less.
-use Rattle.std.proofs.Common.{◌≡◌, ℕ, Bool, true, false, cond, not, List, [], ◌∷◌, length, Ordering, refl, sym, ap, ◌∙◌, subst, nat_eq, arith}
+use Rattle.std.proofs.Common.{◌≡◌, ℕ, Bool, true, false, cond, not, List, [], ◌∷◌, length, ◌<◌, Ordering, refl, sym, ap, ◌∙◌, subst, nat_eq, arith}
 use Rattle.std.specs.Prelude.{◌&&◌, ◌||◌, Option, Some, None, option_copied}
 use denote.Ref.{Bor}
 use Rattle.std.specs.Ordering.{is_eq, nat_cmp, match_ordering}
 use Rattle.std.specs.Cmp.{unsigned_ties}
 use Rattle.std.specs.BTreeMap.{is_at}
+use Rattle.std.specs.List.{AllByRecursion}
 use Rattle.std.specs.BTreeSet.{insert_key}
 use Rattle.std.specs.Set.{remove_key}
 use Rattle.std.specs.Option.{unwrap_or}
@@ -68,6 +69,35 @@ has-remove n k [] r = refl
 has-remove n k (x ∷ xs) r = has_taken (is_eq (nat_cmp k x)) n k x xs (remove_key (is_at (nat_cmp k)) xs)
     (unsigned_ties k x) (none_above x x xs r.0 (omega arith)) (has-remove n k xs r.1)
 
+all_put : (r : Ordering) (x k y : ℕ) (ys zs : List ℕ) → nat_cmp k y ≡ r → x < k → AllByRecursion (λ z. x < z) (y ∷ ys)
+    → AllByRecursion (λ z. x < z) zs → AllByRecursion (λ z. x < z) (match_ordering r (k ∷ y ∷ ys) (y ∷ ys) (y ∷ zs))
+all_put Ordering.Less x k y ys zs e l a b = (l, a)
+all_put Ordering.Equal x k y ys zs e l a b = a
+all_put Ordering.Greater x k y ys zs e l a b = (a.0, b)
+
+all_with : (x k : ℕ) (ys : List ℕ) → x < k → AllByRecursion (λ z. x < z) ys →
+    AllByRecursion (λ z. x < z) (insert_key nat_cmp ys k)
+all_with x k [] l a = (l, tt)
+all_with x k (y ∷ ys) l a = all_put (nat_cmp k y) x k y ys (insert_key nat_cmp ys k) refl l a (all_with x k ys l a.1)
+
+all_further : (k x : ℕ) (xs : List ℕ) → k < x → AllByRecursion (λ z. x < z) xs → AllByRecursion (λ z. k < z) xs
+all_further k x [] l a = tt
+all_further k x (y ∷ ys) l a = let h : x < y = a.0 in (omega arith, all_further k x ys l a.1)
+
+rise_put : (r : Ordering) (k x : ℕ) (xs ys : List ℕ) → nat_cmp k x ≡ r → IsRising (x ∷ xs) →
+    (x < k → AllByRecursion (λ z. x < z) ys) → IsRising ys
+    → IsRising (match_ordering r (k ∷ x ∷ xs) (x ∷ xs) (x ∷ ys))
+rise_put Ordering.Less k x xs ys e s a t =
+    let l : k < x = ranked k x Ordering.Less (sym e) in ((l, all_further k x xs l s.0), s)
+rise_put Ordering.Equal k x xs ys e s a t = s
+rise_put Ordering.Greater k x xs ys e s a t = (a (ranked k x Ordering.Greater (sym e)), t)
+
+-- one more number
+pub rise_insert : (k : ℕ) (xs : List ℕ) → IsRising xs → IsRising (insert_key nat_cmp xs k)
+rise_insert k [] s = (tt, tt)
+rise_insert k (x ∷ xs) s = rise_put (nat_cmp k x) k x xs (insert_key nat_cmp xs k) refl s
+    (λ l. all_with x k xs l s.0) (rise_insert k xs s.1)
+
 pub rise_either : (b : Bool) (v w : List ℕ) → IsRising v → IsRising w → IsRising (cond b v w)
 rise_either true v w r s = r
 rise_either false v w r s = s
@@ -112,6 +142,13 @@ module _ (ls m : ListRows) (j : ListKey) (number : ℕ) where
           has-remove n number (list_at ls j) (subst (λ q. IsRising (list_at ls q)) (sym same) r)
           ∙ ap (λ q. is_in ls q n && not (nat_eq n number)) same
       pick false e = sym (or_off (is_in ls k n))
+
+-- the list of each key rises where one got one more number
+pub rise_enlisted : (ls : ListRows) (j k : ListKey) (number : ℕ) (b : Bool) → is_same_list j k ≡ b →
+    IsRising (list_at ls k) → IsRising (cond b (insert_key nat_cmp (list_at ls j) number) (list_at ls k))
+rise_enlisted ls j k number true e r = rise_insert number (list_at ls j)
+    (subst (λ q. IsRising (list_at ls q)) (sym (one_list j k e)) r)
+rise_enlisted ls j k number false e r = r
 
 -- nothing to take out
 pub unstruck : (ls : ListRows) (j : ListKey) (number : ℕ) → list_at ls j ≡ [] → (k : ListKey) → list_at ls k ≡

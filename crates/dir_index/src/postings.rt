@@ -19,8 +19,9 @@ use std::alloc::{AllocError, Global};
 use std::marker::Model;
 
 /// The posting lists of a store's entries. A look-up takes a logarithm of comparisons and no memory.
-/// An update changes the lists that have the entry before and not after, or after and not before. It
-/// makes new ones that share the rest with the old ones, which other owners may still have.
+/// An update changes the lists that have the entry before and not after, or after and not before. `added`,
+/// `removed` and `replaced` take the lists and change in place what has no other owner. `add`, `remove` and
+/// `replace` make new ones that share the rest with the old ones, which other owners may still have.
 pub struct Postings {
     alloc: Global,
     choice: Choice,
@@ -50,6 +51,26 @@ impl Model for Postings {
     ghost view = { λ p. record { indexes = p.choice; lists = p.lists } };
 
     ghost invariant = { λ p. p.none ≡ [] };
+}
+
+/// The lists once the entry of a number has changed from these attributes to those.
+fn changed(
+    alloc: Global,
+    choice: &Choice,
+    lists: Lists,
+    number: u64,
+    before: &[Attribute],
+    after: &[Attribute],
+) -> Result<Lists, AllocError>
+    ensures has { IfOk result (λ m. AllRise lists → (p : Posting) (n : ℕ) → is_in m (key_of p) n
+        ≡ cond (nat_eq n number) (moved (lists_entry choice.now before.now p) (lists_entry choice.now after.now p)
+        (is_in lists (key_of p) n)) (is_in lists (key_of p) n)) }
+    ensures rising { IfOk result (λ m. AllRise lists → AllRise m) }
+{
+    let Moves { was, is } = moves_between(alloc, choice.indexes(), before, after)?;
+    let more = enlisted_in(alloc, lists, &is, &was, number)?;
+    let now = struck_from(alloc, more, &was, &is, number)?;
+    Ok(now)
 }
 
 impl Postings {
@@ -87,24 +108,81 @@ impl Postings {
         })
     }
 
-    /// The lists once the entry of a number has changed from these attributes to those.
-    fn changed(
-        &self,
-        number: u64,
-        before: &[Attribute],
-        after: &[Attribute],
-    ) -> Result<Lists, AllocError>
-        ensures has { IfOk result (λ m. AllRise self.now.lists → (p : Posting) (n : ℕ) → is_in m (key_of p) n
-            ≡ cond (nat_eq n number) (moved (lists_entry self.now.indexes before.now p)
-            (lists_entry self.now.indexes after.now p) (is_in self.now.lists (key_of p) n))
-            (is_in self.now.lists (key_of p) n)) }
-        ensures rising { IfOk result (λ m. AllRise self.now.lists → AllRise m) }
+    /// The lists with an entry under a number above all. What they alone own is changed where it stands; out of memory
+    /// nothing is left of them.
+    pub fn added(self, number: u64, entry: &Entry) -> Result<Postings, AllocError>
+        ensures ok { IfOk result (λ p. (es : List Indexed) → AreOf self es → AllBelow number es →
+            AreOf p (es ++ record { number = number; entry = entry.now } ∷ [])) }
+        ensures indexes { IfOk result (λ p. p.indexes ≡ self.indexes) }
     {
-        let indexes = self.choice.indexes();
-        let Moves { was, is } = moves_between(self.alloc, indexes, before, after)?;
-        let more = enlisted_in(self.alloc, &self.lists, &is, &was, number)?;
-        let now = struck_from(self.alloc, &more, &was, &is, number)?;
-        Ok(now)
+        let Postings {
+            alloc,
+            choice,
+            lists,
+            none,
+        } = self;
+        let lists = changed(alloc, &choice, lists, number, &[], entry.attributes())?;
+        Ok(Postings {
+            alloc,
+            choice,
+            lists,
+            none,
+        })
+    }
+
+    /// The lists without an entry. What they alone own is changed where it stands; out of memory nothing is left.
+    pub fn removed(self, number: u64, entry: &Entry) -> Result<Postings, AllocError>
+        ensures ok { IfOk result (λ p. (es : List Indexed) → AreOf self es → HasEntry es number entry.now →
+            AreOf p (without number es)) }
+        ensures indexes { IfOk result (λ p. p.indexes ≡ self.indexes) }
+    {
+        let Postings {
+            alloc,
+            choice,
+            lists,
+            none,
+        } = self;
+        let lists = changed(alloc, &choice, lists, number, entry.attributes(), &[])?;
+        Ok(Postings {
+            alloc,
+            choice,
+            lists,
+            none,
+        })
+    }
+
+    /// The lists with an entry as it is after a change of its attributes: it leaves the lists that it is no longer in.
+    /// What they alone own is changed where it stands; out of memory nothing is left.
+    pub fn replaced(
+        self,
+        number: u64,
+        before: &Entry,
+        after: &Entry,
+    ) -> Result<Postings, AllocError>
+        ensures ok { IfOk result (λ p. (es : List Indexed) → AreOf self es → HasEntry es number before.now →
+            AreOf p (with_attributes number after.now es)) }
+        ensures indexes { IfOk result (λ p. p.indexes ≡ self.indexes) }
+    {
+        let Postings {
+            alloc,
+            choice,
+            lists,
+            none,
+        } = self;
+        let lists = changed(
+            alloc,
+            &choice,
+            lists,
+            number,
+            before.attributes(),
+            after.attributes(),
+        )?;
+        Ok(Postings {
+            alloc,
+            choice,
+            lists,
+            none,
+        })
     }
 
     /// Lists an entry under a number above all. An `Err` changes nothing.
@@ -114,7 +192,9 @@ impl Postings {
         ensures indexes { self.new.indexes ≡ self.old.indexes }
         ensures err { OnErr result (self.new ≡ self.old) }
     {
-        self.lists = self.changed(number, &[], entry.attributes())?;
+        let same = self.share()?;
+        let more = same.added(number, entry)?;
+        *self = more;
         Ok(())
     }
 
@@ -125,7 +205,9 @@ impl Postings {
         ensures indexes { self.new.indexes ≡ self.old.indexes }
         ensures err { OnErr result (self.new ≡ self.old) }
     {
-        self.lists = self.changed(number, entry.attributes(), &[])?;
+        let same = self.share()?;
+        let fewer = same.removed(number, entry)?;
+        *self = fewer;
         Ok(())
     }
 
@@ -137,7 +219,9 @@ impl Postings {
         ensures indexes { self.new.indexes ≡ self.old.indexes }
         ensures err { OnErr result (self.new ≡ self.old) }
     {
-        self.lists = self.changed(number, before.attributes(), after.attributes())?;
+        let same = self.share()?;
+        let other = same.replaced(number, before, after)?;
+        *self = other;
         Ok(())
     }
 

@@ -18,8 +18,8 @@ mod words;
 pub use choice::Indexes;
 pub use dir_entry::{
     Attribute, Entry, EntryError, Key, Name, NameError, NumberSet, NumberWalk, Octets, Rdn, Schema,
-    Shared, SharedMap, Sought, Truth, TypeAndValue, TypeId, Walk, are_same, copy_values,
-    is_of_syntax, print_before, print_behind, print_from_leaf,
+    Shared, SharedMap, Sought, Truth, TypeAndValue, TypeId, ValueChange, Walk, are_same,
+    copy_values, is_of_syntax, print_before, print_behind, print_from_leaf,
 };
 pub use error::IndexError;
 pub use kinds::Kinds;

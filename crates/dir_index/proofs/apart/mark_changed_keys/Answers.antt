@@ -1,6 +1,6 @@
 -- What search doesn't prove of `mark_changed_keys`: the clause `apart`, by lemmas of `Changed`.
-use Rattle.std.proofs.Common.{sym, ◌∙◌, ap}
-use Rattle.dir_index.proofs.Changed.{no_keys, left_off, right_off}
+use Rattle.std.proofs.Common.{sym, ◌∙◌}
+use Rattle.dir_index.proofs.Changed.{no_keys}
 use Rattle.dir_index.proofs.apart.mark_changed_keys.Goals as goal
 
 pub returns-then-not-lists_keys-clause-apart : goal.returns-then-not-lists_keys-clause-apart

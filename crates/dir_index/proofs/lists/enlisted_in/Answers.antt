@@ -23,14 +23,14 @@ loop-key-preserved-then-not-contains c =
     record {
       has = λ p n.
           ap (λ i. (nat_eq n c.args.number && (has_posting c.next.new.self p && not (has_posting others p))) || i)
-          (enlisted_has c.loop-key.now c.in_ok-now-2.now j c.args.number c.in_ok-now-2.ensures.is (key_of p) n)
+          (enlisted_has c.loop-key.now c.in_ok-now.now j c.args.number c.in_ok-now.ensures.is (key_of p) n)
           ∙ enlist_step (nat_eq n c.args.number) (is_same_list j (key_of p)) (has_posting c.next.new.self p)
           (has_posting others p) (is_in c.loop-key.now (key_of p) n)
           (λ e. ap (is_marked others) (sym (one_list j (key_of p) e)) ∙ none)
           ∙ ap (λ (l : List ListKey). (nat_eq n c.args.number && (has_posting l p && not (has_posting others p))) ||
           is_in c.loop-key.now (key_of p) n) (sym rest)
           ∙ c.loop-key.invariant.has p n;
-      rising = λ old. c.in_ok-now-2.ensures.rising (c.loop-key.invariant.rising old);
+      rising = λ old. c.in_ok-now.ensures.rising (c.loop-key.invariant.rising old);
     }
 
 pub loop-key-preserved : goal.loop-key-preserved

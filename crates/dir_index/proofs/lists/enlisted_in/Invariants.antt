@@ -12,6 +12,6 @@ invariant-loop-key l =
       has : (p : Posting) (n : ℕ) →
           ((nat_eq n l.number && (has_posting l.key-iterator p && not (has_posting l.others.keys p))) || is_in l.now
           (key_of p) n) ≡ ((nat_eq n l.number && (has_posting l.marks.keys p && not (has_posting l.others.keys p))) ||
-          is_in l.lists (key_of p) n);
-      rising : AllRise l.lists → AllRise l.now;
+          is_in l.fn.lists (key_of p) n);
+      rising : AllRise l.fn.lists → AllRise l.now;
     }

@@ -23,7 +23,7 @@ loop-key-preserved-then-not-contains c =
     record {
       has = λ old p n.
           ap (λ i. i && not (nat_eq n c.args.number && (has_posting c.next.new.self p && not (has_posting others p))))
-          (struck_has c.loop-key.now c.in_ok-now-2.now j c.args.number c.in_ok-now-2.ensures.is (key_of p)
+          (struck_has c.loop-key.now c.in_ok-now.now j c.args.number c.in_ok-now.ensures.is (key_of p)
           (c.loop-key.invariant.rising old p) n)
           ∙ strike_step (nat_eq n c.args.number) (is_same_list j (key_of p)) (has_posting c.next.new.self p)
           (has_posting others p) (is_in c.loop-key.now (key_of p) n)
@@ -31,7 +31,7 @@ loop-key-preserved-then-not-contains c =
           ∙ ap (λ (l : List ListKey). is_in c.loop-key.now (key_of p) n && not (nat_eq n c.args.number
           && (has_posting l p && not (has_posting others p)))) (sym rest)
           ∙ c.loop-key.invariant.has old p n;
-      rising = λ old. c.in_ok-now-2.ensures.rising (c.loop-key.invariant.rising old);
+      rising = λ old. c.in_ok-now.ensures.rising (c.loop-key.invariant.rising old);
     }
 
 pub loop-key-preserved : goal.loop-key-preserved

@@ -9,10 +9,10 @@ use Rattle.dir_index.proofs.lists.struck_from.Given as goal
 abbrev pub invariant-loop-key : goal.invariant-loop-key
 invariant-loop-key l =
     record {
-      has : AllRise l.lists → (p : Posting) (n : ℕ) →
+      has : AllRise l.fn.lists → (p : Posting) (n : ℕ) →
           (is_in l.now (key_of p) n
           && not (nat_eq n l.number && (has_posting l.key-iterator p && not (has_posting l.others.keys p)))) ≡
-          (is_in l.lists (key_of p) n
+          (is_in l.fn.lists (key_of p) n
           && not (nat_eq n l.number && (has_posting l.marks.keys p && not (has_posting l.others.keys p))));
-      rising : AllRise l.lists → AllRise l.now;
+      rising : AllRise l.fn.lists → AllRise l.now;
     }
