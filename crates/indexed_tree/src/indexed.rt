@@ -78,6 +78,103 @@ impl IndexedTree {
         self.postings.indexes()
     }
 
+    /// The tree with an entry at the end, its name spelled as its superior's is. What the tree alone owns of its lists is
+    /// changed where it stands; out of memory nothing is left.
+    pub fn added(
+        self,
+        number: u64,
+        name: Name,
+        entry: SharedEntry,
+    ) -> Result<IndexedTree, AllocError>
+        requires above { AllBelow number self.tree.entries }
+        requires absent { is_some (find (rdns name) self.tree.entries) ≡ false }
+        requires footing { has_footing (rdns self.tree.suffix) (rdns name) self.tree.entries ≡ true }
+        ensures { IfOk result (λ t. t ≡ record {
+          indexes = self.indexes;
+          tree =
+              record {
+                suffix = self.tree.suffix;
+                entries = self.tree.entries ++ record {
+                  number = number;
+                  name = name_placed (rdns self.tree.suffix) name self.tree.entries;
+                  entry =
+                      entry;
+                } ∷ [];
+              };
+        }) }
+    {
+        let IndexedTree { mut tree, postings } = self;
+        let postings = listed_more(&tree, postings, number, &entry)?;
+        tree.add(number, name, entry)?;
+        Ok(IndexedTree { tree, postings })
+    }
+
+    /// The tree without the entry of a name that nothing stands below. What the tree alone owns of its lists is changed
+    /// where it stands; out of memory nothing is left.
+    pub fn deleted(self, name: &[Rdn], number: u64) -> Result<IndexedTree, AllocError>
+        requires here { option_map (λ e. e.number) (find (rdns name.now) self.tree.entries) ≡ Some number }
+        requires leaf { has_below (rdns name.now) self.tree.entries ≡ false }
+        ensures { IfOk result (λ t. t ≡ record {
+          indexes = self.indexes;
+          tree =
+              record { suffix = self.tree.suffix; entries = unnumbered number self.tree.entries };
+        }) }
+    {
+        let IndexedTree { mut tree, postings } = self;
+        let postings = unlisted(&tree, postings, number)?;
+        tree.delete(name, number)?;
+        Ok(IndexedTree { tree, postings })
+    }
+
+    /// The tree with other attributes of the entry of a number. What the tree alone owns of its lists is changed where it
+    /// stands; out of memory nothing is left.
+    pub fn replaced(self, number: u64, entry: SharedEntry) -> Result<IndexedTree, AllocError>
+        ensures { IfOk result (λ t. t ≡ record {
+          indexes = self.indexes;
+          tree =
+              record { suffix = self.tree.suffix; entries = replaced number entry self.tree.entries };
+        }) }
+    {
+        let IndexedTree { mut tree, postings } = self;
+        let postings = relisted(&tree, postings, number, &entry)?;
+        tree.replace(number, entry)?;
+        Ok(IndexedTree { tree, postings })
+    }
+
+    /// The tree with another name and other attributes of an entry: each name that begins with the old one begins with
+    /// the new one in its place, which is spelled as its superior's is. What the tree alone owns of its lists is changed
+    /// where it stands; out of memory nothing is left.
+    pub fn renamed(
+        self,
+        name: &[Rdn],
+        number: u64,
+        new_name: Name,
+        new_entry: SharedEntry,
+    ) -> Result<IndexedTree, AllocError>
+        requires here { option_map (λ e. e.number) (find (rdns name.now) self.tree.entries) ≡ Some number }
+        requires root { name_eq (rdns name.now) (rdns self.tree.suffix) ≡ false }
+        requires parent { is_some (find (above (rdns new_name)) self.tree.entries) ≡ true }
+        requires apart { begins (rdns name.now) (above (rdns new_name)) ≡ false }
+        requires free { is_some (find (rdns new_name) self.tree.entries) ≡ true →
+            name_eq (rdns name.now) (rdns new_name) ≡ true }
+        ensures { IfOk result (λ t. t ≡ record {
+          indexes = self.indexes;
+          tree =
+              record {
+                suffix = self.tree.suffix;
+                entries = moved (rdns name.now)
+                    (name_placed (rdns self.tree.suffix) new_name self.tree.entries) new_entry
+                    self.tree.entries;
+              };
+        }) }
+    {
+        let IndexedTree { mut tree, postings } = self;
+        tree.is_directory();
+        let postings = relisted(&tree, postings, number, &new_entry)?;
+        tree.rename(name, number, new_name, new_entry)?;
+        Ok(IndexedTree { tree, postings })
+    }
+
     /// Puts an entry at the end, its name spelled as its superior's is. An `Err` changes nothing.
     pub fn add(&mut self, number: u64, name: Name, entry: SharedEntry) -> Result<(), AllocError>
         requires above { AllBelow number self.old.tree.entries }
@@ -98,9 +195,9 @@ impl IndexedTree {
         }) }
         ensures err { OnErr result (self.new ≡ self.old) }
     {
-        let postings = listed_more(&self.tree, &self.postings, number, &entry)?;
-        self.tree.add(number, name, entry)?;
-        self.postings = postings;
+        let same = self.share()?;
+        let more = same.added(number, name, entry)?;
+        *self = more;
         Ok(())
     }
 
@@ -115,9 +212,9 @@ impl IndexedTree {
         }) }
         ensures err { OnErr result (self.new ≡ self.old) }
     {
-        let postings = unlisted(&self.tree, &self.postings, number)?;
-        self.tree.delete(name, number)?;
-        self.postings = postings;
+        let same = self.share()?;
+        let fewer = same.deleted(name, number)?;
+        *self = fewer;
         Ok(())
     }
 
@@ -130,9 +227,9 @@ impl IndexedTree {
         }) }
         ensures err { OnErr result (self.new ≡ self.old) }
     {
-        let postings = relisted(&self.tree, &self.postings, number, &entry)?;
-        self.tree.replace(number, entry)?;
-        self.postings = postings;
+        let same = self.share()?;
+        let other = same.replaced(number, entry)?;
+        *self = other;
         Ok(())
     }
 
@@ -163,10 +260,9 @@ impl IndexedTree {
         }) }
         ensures err { OnErr result (self.new ≡ self.old) }
     {
-        self.tree.is_directory();
-        let postings = relisted(&self.tree, &self.postings, number, &new_entry)?;
-        self.tree.rename(name, number, new_name, new_entry)?;
-        self.postings = postings;
+        let same = self.share()?;
+        let other = same.renamed(name, number, new_name, new_entry)?;
+        *self = other;
         Ok(())
     }
 }

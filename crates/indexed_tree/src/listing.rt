@@ -11,59 +11,56 @@ use std::alloc::AllocError;
 /// The lists with an entry of a number above all.
 pub fn listed_more(
     tree: &Tree,
-    postings: &Postings,
+    postings: Postings,
     number: u64,
     entry: &Entry,
 ) -> Result<Postings, AllocError>
-    requires of { AreOf postings.now (listed_of tree.now.entries) }
+    requires of { AreOf postings (listed_of tree.now.entries) }
     requires above { AllBelow number tree.now.entries }
     ensures lists { IfOk result (λ p. AreOf p (listed_of tree.now.entries ++ record {
       number = number;
       entry =
           entry.now;
     } ∷ [])) }
-    ensures indexes { IfOk result (λ p. p.indexes ≡ postings.now.indexes) }
+    ensures indexes { IfOk result (λ p. p.indexes ≡ postings.indexes) }
 {
-    let mut lists = postings.share()?;
-    lists.add(number, entry)?;
+    let lists = postings.added(number, entry)?;
     Ok(lists)
 }
 
 /// The lists without the entry of a number.
-pub fn unlisted(tree: &Tree, postings: &Postings, number: u64) -> Result<Postings, AllocError>
-    requires of { AreOf postings.now (listed_of tree.now.entries) }
+pub fn unlisted(tree: &Tree, postings: Postings, number: u64) -> Result<Postings, AllocError>
+    requires of { AreOf postings (listed_of tree.now.entries) }
     ensures lists { IfOk result (λ p. AreOf p (listed_of (unnumbered number tree.now.entries))) }
-    ensures indexes { IfOk result (λ p. p.indexes ≡ postings.now.indexes) }
+    ensures indexes { IfOk result (λ p. p.indexes ≡ postings.indexes) }
 {
     tree.is_directory();
-    let mut lists = postings.share()?;
     match tree.entry(number) {
         Some(held) => {
-            lists.remove(number, held)?;
+            let lists = postings.removed(number, held)?;
             Ok(lists)
         }
-        None => Ok(lists),
+        None => Ok(postings),
     }
 }
 
 /// The lists with other attributes of the entry of a number.
 pub fn relisted(
     tree: &Tree,
-    postings: &Postings,
+    postings: Postings,
     number: u64,
     entry: &Entry,
 ) -> Result<Postings, AllocError>
-    requires of { AreOf postings.now (listed_of tree.now.entries) }
+    requires of { AreOf postings (listed_of tree.now.entries) }
     ensures lists { IfOk result (λ p. AreOf p (listed_of (replaced number entry.now tree.now.entries))) }
-    ensures indexes { IfOk result (λ p. p.indexes ≡ postings.now.indexes) }
+    ensures indexes { IfOk result (λ p. p.indexes ≡ postings.indexes) }
 {
     tree.is_directory();
-    let mut lists = postings.share()?;
     match tree.entry(number) {
         Some(held) => {
-            lists.replace(number, held, entry)?;
+            let lists = postings.replaced(number, held, entry)?;
             Ok(lists)
         }
-        None => Ok(lists),
+        None => Ok(postings),
     }
 }

@@ -7,20 +7,19 @@ use Rattle.indexed_tree.specs.Listed.{listed_of}
 use Rattle.indexed_tree.proofs.Listed.{of_same, held_at, none_at, listed_unnumbered, none_unnumbered}
 use Rattle.indexed_tree.proofs.listing.unlisted.Goals as goal
 
-pub returns-in_ok-remove-in-Some-clause-lists : goal.returns-in_ok-remove-in-Some-clause-lists
-returns-in_ok-remove-in-Some-clause-lists c =
+pub returns-in_ok-lists-in-Some-clause-lists : goal.returns-in_ok-lists-in-Some-clause-lists
+returns-in_ok-lists-in-Some-clause-lists c =
     let d = c.args.tree.now.entries in
     let k = c.args.number in
-    of_same c.remove.new.self c.remove.new.self (listed_of (unnumbered k d)) (without k (listed_of d)) refl
+    let lists = c.in_ok-lists-in-Some.lists in
+    of_same lists lists (listed_of (unnumbered k d)) (without k (listed_of d)) refl
     (listed_unnumbered k d c.is_directory.ensures.rise)
-    (c.in_ok-remove-in-Some.ensures.ok (listed_of d) (of_same c.in_ok-lists.lists c.args.postings.now (listed_of d)
-    (listed_of d) c.in_ok-lists.ensures refl c.requires.of)
+    (c.in_ok-lists-in-Some.ensures.ok (listed_of d) c.requires.of
     (subst (λ (e : List KeyedAttribute). HasEntry (listed_of d) k e) (sym c.deref.ensures)
     (held_at k d c.in-Some.held.now c.in-Some.ensures)))
 
 pub returns-in-None-clause-lists : goal.returns-in-None-clause-lists
 returns-in-None-clause-lists c =
     let d = c.args.tree.now.entries in
-    of_same c.in_ok-lists.lists c.args.postings.now (listed_of (unnumbered c.args.number d)) (listed_of d)
-    c.in_ok-lists.ensures (ap listed_of (none_unnumbered c.args.number d
-    (none_at c.args.number d c.in-None.ensures))) c.requires.of
+    of_same c.args.postings c.args.postings (listed_of (unnumbered c.args.number d)) (listed_of d) refl
+    (ap listed_of (none_unnumbered c.args.number d (none_at c.args.number d c.in-None.ensures))) c.requires.of

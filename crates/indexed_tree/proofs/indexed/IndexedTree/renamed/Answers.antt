@@ -1,4 +1,4 @@
--- What search doesn't prove of `rename`: the invariant, by lemmas of `Listed`.
+-- What search doesn't prove of `renamed`: the invariant, by lemmas of `Listed`.
 use Rattle.std.proofs.Common.{refl, ap, subst, ◌∙◌, List}
 use Rattle.dir_index.specs.dir_entry.Entry.{KeyedAttribute}
 use Rattle.dir_index.specs.ldap_dn.Names.{rdns}
@@ -7,10 +7,10 @@ use Rattle.directory_api.specs.dir_tree.Directory.{TreeModel, replaced}
 use Rattle.directory_api.specs.dir_tree.Placed.{name_placed}
 use Rattle.indexed_tree.specs.Listed.{listed_of}
 use Rattle.indexed_tree.proofs.Listed.{of_same, moved_replaced}
-use Rattle.indexed_tree.proofs.indexed.IndexedTree.rename.Goals as goal
+use Rattle.indexed_tree.proofs.indexed.IndexedTree.renamed.Goals as goal
 
-pub invariant_of-self-2 : goal.invariant_of-self-2
-invariant_of-self-2 c =
+pub invariant_of-result : goal.invariant_of-result
+invariant_of-result c =
     let p = c.in_ok-postings.postings in
     let d = c.self.inside.tree.entries in
     let k = c.args.number in
