@@ -1,19 +1,21 @@
 //! The directory: a schema and a tree of entries, whose keys are those of the schema. What each update asks for is
 //! judged before anything changes.
-ghost use Rattle.std.specs.Prelude.{◌≡◌, ◌+◌, [], Ok, IfOk, IfErr, OnOk, OnErr};
+ghost use Rattle.std.specs.Prelude.{◌≡◌, ◌+◌, [], List, Result, IfOk, OnErr};
 ghost use Rattle.std.specs.Arc.{arc_value};
 ghost use Rattle.indexed_tree.specs.Stored.{directory, AreKeyedBy, NumbersBelow};
+ghost use Rattle.indexed_tree.specs.Directory.{NamedEntry};
+ghost use Rattle.indexed_tree.specs.directory_api.Answers.{ReplyModel};
 ghost use Rattle.indexed_tree.specs.directory_api.View.{reply_view};
 ghost use Rattle.entry_updates.specs.ldap_parts.UpdateView.{add_view, modify_view, modify_dn_view};
 ghost use Rattle.entry_updates.specs.ldap_op.View.{update_view};
 ghost use Rattle.dir_store.specs.Updates.{added, deleted, modified, renamed_all, updated, applied, reply_to};
+ghost use Rattle.dir_store.specs.private.Outcome.{IsOutcome};
 ghost use Rattle.dir_store.specs.private.View.{RefusedWith};
 
 use crate::adding::{Placed, addition};
-use crate::deleting::asked_leaf;
+use crate::deleting::asked_out;
 use crate::fault::{StoreError, reply_of_refusal};
 use crate::modifying::{ChangedEntry, asked_change};
-use crate::names::asked_name;
 use crate::renaming::{Moved, asked_move};
 use entry_updates::{AddRequest, ModifyDnRequest, ModifyRequest, Op, ResultCode, Update};
 use indexed_tree::{IndexedTree, Indexes, Name, Reading, Reply, Schema, SharedEntry, Tree};
@@ -46,6 +48,22 @@ impl Model for Store {
     ghost view = { λ s. record { directory = directory (arc_value s.schema) s.held.tree; indexes = s.held.indexes } };
 
     ghost invariant = { λ s. AreKeyedBy (arc_value s.schema) s.held.tree.entries };
+}
+
+/// A store after an update, and the reply.
+#[derive(Drop)]
+pub struct Applied {
+    pub store: Store,
+    pub reply: Reply,
+}
+
+/// What becomes of a store that an update is made of.
+#[derive(Drop)]
+enum Outcome {
+    /// The update is made.
+    Made(Store),
+    /// The update is refused with a reply, and the store is as it was.
+    Refused(Store, Reply),
 }
 
 impl Store {
@@ -103,110 +121,124 @@ impl Store {
         ensures below { IfOk result (λ reply. NumbersBelow (number + 1) self.new.directory.entries) }
         ensures err { OnErr result (self.new ≡ self.old) }
     {
+        let same = self.share()?;
+        let Applied { store, reply } = same.applied(alloc, number, op)?;
+        *self = store;
+        Ok(reply)
+    }
+
+    /// The store after an update under a number above those of all entries, or as it was where the update is refused,
+    /// and the reply. What the store alone owns is changed where it stands; out of memory nothing is left.
+    pub fn applied(self, alloc: Global, number: u64, op: &Op) -> Result<Applied, AllocError>
+        requires above { NumbersBelow number self.directory.entries }
+        ensures directory { IfOk result (λ a. a.store.directory ≡ applied self.directory number op.now) }
+        ensures reply { IfOk result (λ a. reply_view a.reply ≡ reply_to self.directory number op.now) }
+        ensures indexes { IfOk result (λ a. a.store.indexes ≡ self.indexes) }
+        ensures below { IfOk result (λ a. NumbersBelow (number + 1) a.store.directory.entries) }
+    {
         let looked = op.look(alloc)?;
-        match self.update(alloc, number, looked.update()) {
-            Ok(()) => Ok(Reply::only(alloc, ResultCode::SUCCESS)),
-            Err(error) => reply_of_refusal(error),
+        match self.updated(alloc, number, looked.update())? {
+            Outcome::Made(store) => {
+                let reply = Reply::only(alloc, ResultCode::SUCCESS);
+                Ok(Applied { store, reply })
+            }
+            Outcome::Refused(store, reply) => Ok(Applied { store, reply }),
         }
     }
 
-    /// Makes an update, or refuses it and changes nothing.
-    fn update(&mut self, alloc: Global, number: u64, update: &Update) -> Result<(), StoreError>
-        requires above { NumbersBelow number self.old.directory.entries }
-        ensures ok { OnOk result (updated self.old.directory number (update_view update.now) ≡
-            Ok self.new.directory.entries) }
-        ensures schema { self.new.directory.schema ≡ self.old.directory.schema }
-        ensures suffix { self.new.directory.suffix ≡ self.old.directory.suffix }
-        ensures indexes { self.new.indexes ≡ self.old.indexes }
-        ensures refused { IfErr result
-            (λ e. RefusedWith e (updated self.old.directory number (update_view update.now))) }
-        ensures err { OnErr result (self.new ≡ self.old) }
+    /// The store after an update, or as it was where the update is refused.
+    fn updated(self, alloc: Global, number: u64, update: &Update) -> Result<Outcome, AllocError>
+        requires above { NumbersBelow number self.directory.entries }
+        ensures { IfOk result (IsOutcome self (updated self.directory number (update_view update.now))) }
     {
         match update {
-            Update::Add(request) => self.add(alloc, number, request),
-            Update::Delete(name) => self.delete(alloc, name),
-            Update::Modify(request) => self.modify(alloc, request),
-            Update::ModifyDn(request) => self.rename(alloc, request),
-            Update::Noop => Ok(()),
+            Update::Add(request) => self.added(alloc, number, request),
+            Update::Delete(name) => self.deleted(alloc, name),
+            Update::Modify(request) => self.modified(alloc, request),
+            Update::ModifyDn(request) => self.renamed(alloc, request),
+            Update::Noop => Ok(Outcome::Made(self)),
         }
     }
 
-    /// Adds an entry at the end, or refuses it and changes nothing.
+    /// The store without a change, and the reply that says why.
+    fn refused(self, error: StoreError) -> Result<Outcome, AllocError>
+        ensures { IfOk result (λ o. (asked : Result (List NamedEntry) ReplyModel) → RefusedWith error asked →
+            IsOutcome self asked o) }
+    {
+        let reply = reply_of_refusal(error)?;
+        Ok(Outcome::Refused(self, reply))
+    }
+
+    /// The store with an entry at the end, or as it was.
     #[tactic(auto, using(indexed_tree::proofs::Shown::numbers_shown, indexed_tree::proofs::Shown::pushed_shown, indexed_tree::proofs::Shown::keyed_push))]
-    fn add(&mut self, alloc: Global, number: u64, request: &AddRequest) -> Result<(), StoreError>
-        requires above { NumbersBelow number self.old.directory.entries }
-        ensures ok { OnOk result (added self.old.directory number (add_view request.now) ≡
-            Ok self.new.directory.entries) }
-        ensures schema { self.new.directory.schema ≡ self.old.directory.schema }
-        ensures suffix { self.new.directory.suffix ≡ self.old.directory.suffix }
-        ensures indexes { self.new.indexes ≡ self.old.indexes }
-        ensures refused { IfErr result (λ e. RefusedWith e (added self.old.directory number (add_view request.now))) }
-        ensures err { OnErr result (self.new ≡ self.old) }
+    fn added(self, alloc: Global, number: u64, request: &AddRequest) -> Result<Outcome, AllocError>
+        requires above { NumbersBelow number self.directory.entries }
+        ensures { IfOk result (IsOutcome self (added self.directory number (add_view request.now))) }
     {
-        let Placed { name, entry } = addition(alloc, &self.schema, self.held.tree(), request)?;
-        let entry = SharedEntry::new(alloc, entry)?;
-        self.held.add(number, name, entry)?;
-        Ok(())
+        match addition(alloc, &self.schema, self.held.tree(), request) {
+            Ok(placed) => {
+                let Placed { name, entry } = placed;
+                let entry = SharedEntry::new(alloc, entry)?;
+                let Store { schema, held } = self;
+                let held = held.added(number, name, entry)?;
+                Ok(Outcome::Made(Store { schema, held }))
+            }
+            Err(error) => self.refused(error),
+        }
     }
 
-    /// Takes an entry out, or refuses it and changes nothing.
+    /// The store without an entry, or as it was.
     #[tactic(auto, using(indexed_tree::proofs::Shown::deleted_shown, indexed_tree::proofs::Shown::keyed_unnumbered))]
-    fn delete(&mut self, alloc: Global, text: &str) -> Result<(), StoreError>
-        ensures ok { OnOk result (deleted self.old.directory text.now ≡ Ok self.new.directory.entries) }
-        ensures schema { self.new.directory.schema ≡ self.old.directory.schema }
-        ensures suffix { self.new.directory.suffix ≡ self.old.directory.suffix }
-        ensures indexes { self.new.indexes ≡ self.old.indexes }
-        ensures refused { IfErr result (λ e. RefusedWith e (deleted self.old.directory text.now)) }
-        ensures err { OnErr result (self.new ≡ self.old) }
+    fn deleted(self, alloc: Global, text: &str) -> Result<Outcome, AllocError>
+        ensures { IfOk result (IsOutcome self (deleted self.directory text.now)) }
     {
-        let name = asked_name(alloc, &self.schema, text)?;
-        let number = asked_leaf(alloc, &self.schema, self.held.tree(), name.rdns())?;
-        self.held.delete(name.rdns(), number)?;
-        Ok(())
+        match asked_out(alloc, &self.schema, self.held.tree(), text) {
+            Ok(out) => {
+                let (name, number) = out;
+                let Store { schema, held } = self;
+                let held = held.deleted(name.rdns(), number)?;
+                Ok(Outcome::Made(Store { schema, held }))
+            }
+            Err(error) => self.refused(error),
+        }
     }
 
-    /// Changes an entry's attributes, or refuses it and changes nothing.
+    /// The store with other attributes of an entry, or as it was.
     #[tactic(auto, using(indexed_tree::proofs::Shown::replaced_shown, indexed_tree::proofs::Shown::keyed_replaced))]
-    fn modify(&mut self, alloc: Global, request: &ModifyRequest) -> Result<(), StoreError>
-        ensures ok { OnOk result (modified self.old.directory (modify_view request.now) ≡
-            Ok self.new.directory.entries) }
-        ensures schema { self.new.directory.schema ≡ self.old.directory.schema }
-        ensures suffix { self.new.directory.suffix ≡ self.old.directory.suffix }
-        ensures indexes { self.new.indexes ≡ self.old.indexes }
-        ensures refused { IfErr result (λ e. RefusedWith e (modified self.old.directory (modify_view request.now))) }
-        ensures err { OnErr result (self.new ≡ self.old) }
+    fn modified(self, alloc: Global, request: &ModifyRequest) -> Result<Outcome, AllocError>
+        ensures { IfOk result (IsOutcome self (modified self.directory (modify_view request.now))) }
     {
-        let ChangedEntry { number, entry } = asked_change(
-            alloc,
-            &self.schema,
-            self.held.tree(),
-            request,
-        )?;
-        let entry = SharedEntry::new(alloc, entry)?;
-        self.held.replace(number, entry)?;
-        Ok(())
+        match asked_change(alloc, &self.schema, self.held.tree(), request) {
+            Ok(changed) => {
+                let ChangedEntry { number, entry } = changed;
+                let entry = SharedEntry::new(alloc, entry)?;
+                let Store { schema, held } = self;
+                let held = held.replaced(number, entry)?;
+                Ok(Outcome::Made(Store { schema, held }))
+            }
+            Err(error) => self.refused(error),
+        }
     }
 
-    /// Gives an entry, and those below it, other names, or refuses it and changes nothing.
+    /// The store with other names of an entry and of those below it, or as it was.
     #[tactic(auto, using(crate::proofs::Spelled::moved_placed, indexed_tree::proofs::Shown::keyed_moved))]
-    fn rename(&mut self, alloc: Global, request: &ModifyDnRequest) -> Result<(), StoreError>
-        ensures ok { OnOk result (renamed_all self.old.directory (modify_dn_view request.now) ≡
-            Ok self.new.directory.entries) }
-        ensures schema { self.new.directory.schema ≡ self.old.directory.schema }
-        ensures suffix { self.new.directory.suffix ≡ self.old.directory.suffix }
-        ensures indexes { self.new.indexes ≡ self.old.indexes }
-        ensures refused { IfErr result
-            (λ e. RefusedWith e (renamed_all self.old.directory (modify_dn_view request.now))) }
-        ensures err { OnErr result (self.new ≡ self.old) }
+    fn renamed(self, alloc: Global, request: &ModifyDnRequest) -> Result<Outcome, AllocError>
+        ensures { IfOk result (IsOutcome self (renamed_all self.directory (modify_dn_view request.now))) }
     {
-        let Moved {
-            number,
-            before,
-            after,
-            entry,
-        } = asked_move(alloc, &self.schema, self.held.tree(), request)?;
-        let entry = SharedEntry::new(alloc, entry)?;
-        self.held.rename(before.rdns(), number, after, entry)?;
-        Ok(())
+        match asked_move(alloc, &self.schema, self.held.tree(), request) {
+            Ok(asked) => {
+                let Moved {
+                    number,
+                    before,
+                    after,
+                    entry,
+                } = asked;
+                let entry = SharedEntry::new(alloc, entry)?;
+                let Store { schema, held } = self;
+                let held = held.renamed(before.rdns(), number, after, entry)?;
+                Ok(Outcome::Made(Store { schema, held }))
+            }
+            Err(error) => self.refused(error),
+        }
     }
 }
