@@ -1,11 +1,15 @@
-use Rattle.std.proofs.Common.{◌≡◌, ◌++◌, take}
+use Rattle.std.proofs.Common.{◌≡◌, ◌≤◌, ◌-◌, ◌++◌, length, take}
 use Rattle.state_machine.proofs.executed.execute.Given as goal
 
--- so far the records up to this one are executed
-abbrev pub invariant-loop-entry : goal.invariant-loop-entry
-invariant-loop-entry l = record {
-  grown : l.executed.records ≡ l.fn.executed.records ++ take l.entry-index l.records;
+-- so far these many records are executed
+abbrev pub invariant-loop-done : goal.invariant-loop-done
+invariant-loop-done l = record {
+  within : l.done ≤ length l.records;
+  grown : l.executed.records ≡ l.fn.executed.records ++ take l.done l.records;
   schema : l.executed.schema ≡ l.fn.executed.schema;
   suffix : l.executed.suffix ≡ l.fn.executed.suffix;
   indexes : l.executed.indexes ≡ l.fn.executed.indexes;
 }
+
+abbrev pub decreases-loop-done : goal.decreases-loop-done
+decreases-loop-done l = length l.records - l.done
