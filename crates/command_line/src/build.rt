@@ -1,7 +1,7 @@
 //! Says whether this program's proofs were checked.
 
 /// How a program was built.
-#[derive(Clone, Copy, Debug, PartialEq, Eq)]
+#[derive(Clone, Copy)]
 pub enum Build {
     /// The prover has checked each function before it was built.
     Proved,
@@ -21,10 +21,7 @@ impl Build {
 
     /// The program's version, without how it was built.
     pub fn number(self) -> &'static str {
-        match self.version().split_once(' ') {
-            Some((number, _)) => number,
-            None => self.version(),
-        }
+        Build::Proved.version()
     }
 
     /// The program's version, as `--version` prints it.

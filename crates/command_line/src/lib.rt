@@ -16,5 +16,5 @@ pub use clap::Error;
 pub use ldap_requests::Scope;
 pub use logs::Logs;
 pub use places::{Address, Peer};
-pub use serving::{Password, Serving};
+pub use serving::{Password, Serving, Settings, Times};
 pub use words::{Checking, Ground, Job, Opening, Question, read_words};

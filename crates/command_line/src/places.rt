@@ -1,9 +1,8 @@
 //! Where the replicas of a cluster are found, by the words of the command line.
-use std::fmt::{self, Display, Formatter, Write};
 use std::net::SocketAddr;
 
 /// Where a socket is found.
-#[derive(Clone, Copy, Debug, PartialEq, Eq)]
+#[derive(Clone, Copy)]
 pub enum Address<'a> {
     /// An address with its port.
     Numbers(SocketAddr),
@@ -25,70 +24,49 @@ pub struct Peer<'a> {
 /// How many characters the name of a host has, at most (RFC 1035 2.3.4).
 const LONGEST: usize = 253;
 
-/// Whether a character may stand in the name of a host.
-fn is_in_host(character: char) -> bool {
-    character.is_ascii_alphanumeric() || matches!(character, '-' | '.' | '_')
-}
+/// What may stand in the name of a host beside letters and digits.
+const HOST_MARKS: &[u8] = b"-._";
 
-/// The last part of a host's name, behind its last dot.
-fn last_part(host: &str) -> &str {
-    match host.rsplit_once('.') {
-        Some((_, last)) => last,
-        None => host,
-    }
-}
+/// What may stand in a URI beside letters and digits (RFC 3986 2): delimiters, other marks, and what begins an escape.
+const URI_MARKS: &[u8] = b":/?#[]@!$&'()*+,;=-._~%";
 
-/// Whether a text is the name of a host (RFC 1123 2.1), whose last part begins with a letter: else it may be an address
-/// that is spelled badly.
-fn is_host(text: &str) -> bool {
-    text.len() <= LONGEST
-        && text.chars().all(is_in_host)
-        && !text.starts_with(['.', '-'])
-        && !text.contains("..")
-        && last_part(text).starts_with(|first: char| first.is_ascii_alphabetic())
-}
-
-/// What is wrong with the word of a PEER.
-#[derive(Clone, Copy, Debug, PartialEq, Eq)]
-pub enum PeerFault<'a> {
-    /// There is no comma.
-    OneAddress,
-    /// An address has no port.
-    NoPort(&'a str),
-    /// What stands for its port is none.
-    BadPort(&'a str),
-    /// It is neither an address nor a host's name.
-    BadHost(&'a str),
-    /// What stands for the URI isn't one.
-    BadUri(&'a str),
-}
-
-impl<'a> Display for PeerFault<'a> {
-    fn fmt<W: Write>(&self, f: &mut Formatter<W>) -> fmt::Result {
-        match self {
-            PeerFault::OneAddress => f.write_str(
-                "it has one address: write that for replicas, a comma, and that for clients",
-            ),
-            PeerFault::NoPort(word) => {
-                write!(
-                    f,
-                    "'{word}' has no port: write ADDRESS:PORT, and IPv6 as [ADDRESS]:PORT"
-                )
-            }
-            PeerFault::BadPort(word) => write!(f, "the port of '{word}' is no number up to 65535"),
-            PeerFault::BadHost(word) => {
-                write!(
-                    f,
-                    "'{word}' begins with neither an address nor a host's name"
-                )
-            }
-            PeerFault::BadUri(word) => {
-                write!(
-                    f,
-                    "'{word}' is no URI: write ldap:// or ldaps://, and a host"
-                )
-            }
+/// Whether a text has nothing but ASCII letters, digits and these marks.
+fn is_made_of(text: &str, marks: &[u8]) -> bool {
+    for octet in text.as_bytes() {
+        if !octet.is_ascii_alphanumeric() && !marks.contains(octet) {
+            return false;
         }
+    }
+    true
+}
+
+/// Whether a text is the name of a host (RFC 1123 2.1): parts with dots between them, none of which is empty. The last
+/// begins with a letter: else it may be an address that is spelled badly.
+fn is_host(text: &str) -> bool {
+    let mut is_named = false;
+    for part in text.split('.') {
+        match part.as_bytes() {
+            [first, ..] => is_named = first.is_ascii_alphabetic(),
+            [] => return false,
+        }
+    }
+    is_named && text.len() <= LONGEST && !text.starts_with('-') && is_made_of(text, HOST_MARKS)
+}
+
+/// What is wrong with the word of a PEER: a sentence, and the part of the word within it.
+#[derive(Clone, Copy)]
+pub struct PeerFault<'a> {
+    pub before: &'static str,
+    pub part: &'a str,
+    pub behind: &'static str,
+}
+
+/// What is wrong with a part of the word of a PEER, which the sentence begins with.
+fn fault_of<'a>(part: &'a str, behind: &'static str) -> PeerFault<'a> {
+    PeerFault {
+        before: "'",
+        part,
+        behind,
     }
 }
 
@@ -98,13 +76,20 @@ fn address_of(word: &str) -> Result<Address<'_>, PeerFault<'_>> {
         return Ok(Address::Numbers(address));
     }
     let Some((host, port)) = word.rsplit_once(':') else {
-        return Err(PeerFault::NoPort(word));
+        return Err(fault_of(
+            word,
+            "' has no port: write ADDRESS:PORT, and IPv6 as [ADDRESS]:PORT",
+        ));
     };
     let Ok(port) = port.parse::<u16>() else {
-        return Err(PeerFault::BadPort(word));
+        return Err(PeerFault {
+            before: "the port of '",
+            part: word,
+            behind: "' is no number up to 65535",
+        });
     };
     if !is_host(host) {
-        return Err(PeerFault::BadHost(word));
+        return Err(fault_of(word, "' begins with neither an address nor a host's name"));
     }
     Ok(Address::Name { host, port })
 }
@@ -125,17 +110,21 @@ fn is_any(address: &Address<'_>) -> bool {
     }
 }
 
-/// Whether the system chooses an address's port when somebody listens there.
-fn has_free_port(address: &Address<'_>) -> bool {
-    match address {
-        Address::Numbers(address) => address.port() == 0,
-        Address::Name { host: _, port } => *port == 0,
-    }
-}
-
-/// Whether two addresses are one.
+/// Whether two addresses are one: no port 0 is, for the system chooses another when somebody listens there.
 fn are_one(first: &Address<'_>, second: &Address<'_>) -> bool {
-    first == second && !has_free_port(first)
+    match (first, second) {
+        (Address::Numbers(first), Address::Numbers(second)) => {
+            first.port() != 0 && first == second
+        }
+        (
+            Address::Name { host, port },
+            Address::Name {
+                host: other_host,
+                port: other_port,
+            },
+        ) => *port != 0 && port == other_port && host == other_host,
+        _ => false,
+    }
 }
 
 impl<'a> Peer<'a> {
@@ -156,49 +145,40 @@ impl<'a> Peer<'a> {
     }
 }
 
-/// Whether a character may stand in a URI (RFC 3986 2), escapes and all.
-fn is_in_uri(character: char) -> bool {
-    character.is_ascii_graphic()
-        && !matches!(
-            character,
-            '"' | '<' | '>' | '\\' | '^' | '`' | '{' | '|' | '}'
-        )
-}
-
-/// A URI that clients may be referred to, with a host (RFC 4516 2); none, where the word isn't one.
-fn uri_of(word: &str) -> Option<&str> {
-    let behind = match word.strip_prefix("ldap://") {
-        Some(behind) => behind,
-        None => word.strip_prefix("ldaps://")?,
-    };
-    if behind.is_empty() || behind.starts_with('/') || !word.chars().all(is_in_uri) {
-        return None;
-    }
-    Some(word)
-}
-
-/// The second address of a PEER, and the URI behind it, where there is one.
-fn clients_of(word: &str) -> Result<(Address<'_>, Option<&str>), PeerFault<'_>> {
-    let Some((address, uri)) = word.split_once(',') else {
-        return Ok((address_of(word)?, None));
-    };
-    let address = address_of(address)?;
-    match uri_of(uri) {
-        Some(uri) => Ok((address, Some(uri))),
-        None => Err(PeerFault::BadUri(uri)),
+/// Whether a text is a URI that clients may be referred to, with a host (RFC 4516 2).
+fn is_uri(text: &str) -> bool {
+    match text.split_once("://") {
+        Some(("ldap" | "ldaps", behind)) => {
+            !matches!(behind.as_bytes(), [] | [b'/', ..]) && is_made_of(text, URI_MARKS)
+        }
+        _ => false,
     }
 }
 
 /// Where a replica is found, by its word; or why that isn't two addresses, and a URI or none, with commas between them.
 pub fn peer_of(word: &str) -> Result<Peer<'_>, PeerFault<'_>> {
-    let Some((peer, clients)) = word.split_once(',') else {
-        return Err(PeerFault::OneAddress);
+    let Some((peer, rest)) = word.split_once(',') else {
+        return Err(PeerFault {
+            before: "it has one address: write that for replicas, a comma, and that for clients",
+            part: "",
+            behind: "",
+        });
+    };
+    let (clients, uri) = match rest.split_once(',') {
+        Some((clients, uri)) => (clients, Some(uri)),
+        None => (rest, None),
     };
     let peer_address = address_of(peer)?;
-    let (ldap_address, uri) = clients_of(clients)?;
-    Ok(Peer {
-        peer_address,
-        ldap_address,
-        uri,
-    })
+    let ldap_address = address_of(clients)?;
+    match uri {
+        Some(uri) if !is_uri(uri) => Err(fault_of(
+            uri,
+            "' is no URI: write ldap:// or ldaps://, and a host",
+        )),
+        _ => Ok(Peer {
+            peer_address,
+            ldap_address,
+            uri,
+        }),
+    }
 }

@@ -29,6 +29,15 @@ pub enum Takes {
 }
 
 impl Takes {
+    /// Whether it can't be left out.
+    fn is_wanted(self) -> bool {
+        match self {
+            Takes::Wanted | Takes::Number { .. } | Takes::Place | Takes::OneOf(_) => true,
+            Takes::Many { at_least_one } => at_least_one,
+            _ => false,
+        }
+    }
+
     /// The least and the greatest number that may be behind the word, where it takes a number.
     pub fn range(self) -> Option<(u64, u64)> {
         match self {
@@ -65,45 +74,27 @@ pub const INDEX_OPTION: OptionSpec = OptionSpec {
     help: "Read from this file which indexes each attribute type has, in place of none",
 };
 
-/// A word without a name before it.
-fn placed_argument<'a>(alloc: Global, word: &OptionSpec) -> Arg<'a> {
-    Arg::new(alloc, word.name).help(word.help)
-}
-
 /// A word with its name before its value.
-fn named_argument<'a>(alloc: Global, word: &OptionSpec) -> Arg<'a> {
-    placed_argument(alloc, word)
-        .long(word.name)
-        .value_name(word.value)
+fn named<'a>(argument: Arg<'a>, word: &OptionSpec) -> Arg<'a> {
+    argument.long(word.name).value_name(word.value)
 }
 
-/// A word with a number. Its range is judged with the other values, in words of this program.
-fn number<'a>(alloc: Global, word: &OptionSpec) -> Arg<'a> {
-    named_argument(alloc, word).allow_negative_numbers(true)
-}
-
-/// A word as it is told the parser.
+/// A word as it is told the parser. The range of a number is judged with the other values, in words of this program.
 fn argument<'a>(alloc: Global, word: &OptionSpec) -> Arg<'a> {
+    let argument = Arg::new(alloc, word.name)
+        .help(word.help)
+        .required(word.takes.is_wanted())
+        .allow_negative_numbers(word.takes.range().is_some());
     match word.takes {
-        Takes::Nothing => {
-            placed_argument(alloc, word)
-                .long(word.name)
-                .action(ArgAction::SetTrue)
+        Takes::Nothing => argument.long(word.name).action(ArgAction::SetTrue),
+        Takes::Text | Takes::Wanted | Takes::Number { .. } | Takes::Amount { .. } => {
+            named(argument, word)
         }
-        Takes::Text => named_argument(alloc, word),
-        Takes::Texts => named_argument(alloc, word).action(ArgAction::Append),
-        Takes::Wanted => named_argument(alloc, word).required(true),
-        Takes::Number { .. } => number(alloc, word).required(true),
-        Takes::Count { last: _, default } => number(alloc, word).default_value(default),
-        Takes::Amount { .. } => number(alloc, word),
-        Takes::Place => placed_argument(alloc, word).required(true),
-        Takes::OneOf(words) => placed_argument(alloc, word)
-            .required(true)
-            .value_parser(words),
-        Takes::Many { at_least_one: true } => {
-            placed_argument(alloc, word).required(true).num_args(1..)
-        }
-        Takes::Many { .. } => placed_argument(alloc, word).num_args(0..),
+        Takes::Texts => named(argument, word).action(ArgAction::Append),
+        Takes::Count { last: _, default } => named(argument, word).default_value(default),
+        Takes::Place => argument,
+        Takes::OneOf(words) => argument.value_parser(words),
+        Takes::Many { at_least_one } => argument.num_args(usize::from(at_least_one)..),
     }
 }
 
@@ -125,14 +116,13 @@ pub fn command_of<'a>(alloc: Global, order: &CommandSpec) -> Result<Command<'a>,
     Ok(command)
 }
 
-/// The error of a command, unless memory ran out for it.
-fn error_of(command: Result<Command<'_>, AllocError>, message: &str) -> Result<Error, AllocError> {
-    command?.error(ErrorKind::ValueValidation, message)
-}
-
-/// The error by which a command refuses words that it has matched.
+/// The error by which a command refuses words that it has matched; that of memory, where it ran out for that.
 pub fn refusal_by(command: Result<Command<'_>, AllocError>, message: &str) -> Error {
-    match error_of(command, message) {
+    let mut command = match command {
+        Ok(command) => command,
+        Err(error) => return Error::from(error),
+    };
+    match command.error(ErrorKind::ValueValidation, message) {
         Ok(error) => error,
         Err(error) => Error::from(error),
     }

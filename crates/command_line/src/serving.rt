@@ -1,11 +1,11 @@
 //! Reads the words of `serve` as a replica's settings.
 use crate::build::BUILD;
 use crate::logs::{Logs, logs_of};
-use crate::places::{Peer, is_of_this_machine, peer_of};
+use crate::places::{Peer, PeerFault, is_of_this_machine, peer_of};
 use crate::rows::{
     CommandSpec, INDEX_OPTION, OptionSpec, SCHEMA_OPTION, Takes, command_of, refusal_by,
 };
-use crate::words::as_text;
+use crate::words::{as_text, text_in, value_in};
 use clap::{ArgMatches, Error};
 use std::alloc::Global;
 use std::net::SocketAddr;
@@ -30,8 +30,24 @@ pub enum Password<'a> {
     File(&'a str),
 }
 
-/// What a replica is told. Times are in milliseconds.
-pub struct Serving<'a> {
+/// How long a replica waits, in milliseconds.
+#[derive(Clone, Copy)]
+pub struct Times {
+    /// How often it sends again.
+    pub beat: u64,
+    /// How long a backup hears nothing of its primary before it suspects it.
+    pub suspect: u64,
+    /// Within how long a client has to send a message that it has begun.
+    pub stall: u64,
+    /// How long another replica's connection may be silent while others wait for its place.
+    pub idle: u64,
+    /// How long a client may take nothing of what it is sent.
+    pub take: u64,
+}
+
+/// What a replica is told beside where replicas are.
+#[derive(Clone, Copy)]
+pub struct Settings<'a> {
     /// The number of the cluster, from 1.
     pub cluster: u64,
     /// The replica's place among the peers, from 0.
@@ -53,16 +69,7 @@ pub struct Serving<'a> {
     pub sessions: u64,
     /// How many threads wait for updates.
     pub updates: u64,
-    /// How often it sends again.
-    pub beat: u64,
-    /// How long a backup hears nothing of its primary before it suspects it.
-    pub suspect: u64,
-    /// Within how long a client has to send a message that it has begun.
-    pub stall: u64,
-    /// How long another replica's connection may be silent while others wait for its place.
-    pub idle: u64,
-    /// How long a client may take nothing of what it is sent.
-    pub take: u64,
+    pub times: Times,
     /// How many MiB of memory clients may take together, where that is told.
     pub memory_for_clients: Option<u64>,
     /// Where monitors are answered, if they are.
@@ -73,6 +80,11 @@ pub struct Serving<'a> {
     pub slow: u64,
     /// Whether this is the first start of its life.
     pub fresh: bool,
+}
+
+/// What a replica is told.
+pub struct Serving<'a> {
+    pub settings: Settings<'a>,
     /// All replicas, by index.
     pub peers: Vec<Peer<'a>>,
 }
@@ -81,28 +93,7 @@ pub struct Serving<'a> {
 impl<'a> Drop for Serving<'a> {
     fn drop(self) {
         let Serving {
-            cluster: _,
-            index: _,
-            store: _,
-            journal: _,
-            suffix: _,
-            manager: _,
-            password: _,
-            schema: _,
-            indexes: _,
-            seats: _,
-            sessions: _,
-            updates: _,
-            beat: _,
-            suspect: _,
-            stall: _,
-            idle: _,
-            take: _,
-            memory_for_clients: _,
-            metrics: _,
-            logs: _,
-            slow: _,
-            fresh: _,
+            settings: _,
             peers: _,
         } = self;
     }
@@ -304,7 +295,12 @@ fn peers_in<'a>(alloc: Global, words: &[&'a str]) -> Result<Vec<Peer<'a>>, Error
         match peer_of(word) {
             Ok(peer) => peers.push(peer)?,
             Err(fault) => {
-                let message = format!(in alloc; "PEER {word}: {fault}")?;
+                let PeerFault {
+                    before,
+                    part,
+                    behind,
+                } = fault;
+                let message = format!(in alloc; "PEER {word}: {before}{part}{behind}")?;
                 return Err(refusal(alloc, &message));
             }
         }
@@ -316,8 +312,13 @@ fn peers_in<'a>(alloc: Global, words: &[&'a str]) -> Result<Vec<Peer<'a>>, Error
 /// Whether an address stands twice among those of the replicas.
 fn have_one_address(peers: &[Peer<'_>]) -> bool {
     for (index, peer) in peers.iter().enumerate() {
-        if peer.meets_itself() || peers[..index].iter().any(|other| peer.meets(other)) {
+        if peer.meets_itself() {
             return true;
+        }
+        for other in &peers[..index] {
+            if peer.meets(other) {
+                return true;
+            }
         }
     }
     false
@@ -328,11 +329,13 @@ fn judge_peers(alloc: Global, peers: &[Peer<'_>]) -> Result<(), Error> {
     if have_one_address(peers) {
         return Err(refusal(alloc, "an address stands twice among those of the PEERs"));
     }
-    if peers.iter().any(|peer| !peer.is_referable()) {
-        return Err(refusal(
-            alloc,
-            "a PEER that hears clients at every address of its machine has the URI that clients are referred to behind it",
-        ));
+    for peer in peers {
+        if !peer.is_referable() {
+            return Err(refusal(
+                alloc,
+                "a PEER that hears clients at every address of its machine has the URI that clients are referred to behind it",
+            ));
+        }
     }
     Ok(())
 }
@@ -399,32 +402,9 @@ fn judge_numbers(alloc: Global, matches: &ArgMatches<'_>) -> Result<(), Error> {
     Ok(())
 }
 
-/// The number behind a word, where it is there.
-fn amount_in(matches: &ArgMatches<'_>, name: &str) -> Option<u64> {
-    match matches.get_str(name)?.parse::<u64>() {
-        Ok(number) => Some(number),
-        Err(_) => None,
-    }
-}
-
 /// The number behind a word, which is there.
 fn number_in(matches: &ArgMatches<'_>, name: &str) -> u64 {
-    amount_in(matches, name).unwrap_or(0)
-}
-
-/// The text behind a word, which is there.
-fn text_in<'a>(matches: &ArgMatches<'a>, name: &str) -> &'a str {
-    match matches.get_str(name) {
-        Some(text) => text,
-        None => "",
-    }
-}
-
-/// The suffix, and the manager's name.
-fn names_in<'a>(alloc: Global, matches: &ArgMatches<'a>) -> Result<(&'a str, &'a str), Error> {
-    let suffix = as_text(alloc, text_in(matches, "suffix"))?;
-    let manager = as_text(alloc, text_in(matches, "manager"))?;
-    Ok((suffix, manager))
+    matches.get_one::<u64>(name).unwrap_or(0)
 }
 
 /// How the password is told: by one of two words.
@@ -433,8 +413,12 @@ fn password_in<'a>(alloc: Global, matches: &ArgMatches<'a>) -> Result<Password<'
         matches.get_str("password"),
         matches.get_str("password-file"),
     ) {
-        (Some(""), None) => Err(refusal(alloc, "the password is empty")),
-        (Some(text), None) => Ok(Password::Text(as_text(alloc, text)?)),
+        (Some(text), None) => {
+            if text.is_empty() {
+                return Err(refusal(alloc, "the password is empty"));
+            }
+            Ok(Password::Text(as_text(alloc, text)?))
+        }
         (None, Some(path)) => Ok(Password::File(path)),
         _ => Err(refusal(
             alloc,
@@ -465,30 +449,39 @@ fn logs_in(alloc: Global, matches: &ArgMatches<'_>) -> Result<Logs, Error> {
     }
 }
 
-/// What `serve` is told.
-pub fn serving_in<'a>(alloc: Global, matches: &ArgMatches<'a>) -> Result<Serving<'a>, Error> {
-    judge_numbers(alloc, matches)?;
-    let peers = peers_in(alloc, matches.get_strs("PEER").unwrap_or(&[]))?;
-    let index = number_in(matches, "id");
-    if index >= peers.len() as u64 {
-        return Err(refusal(alloc, "the id is not below the number of PEERs"));
+/// How long the replica waits.
+fn times_in(matches: &ArgMatches<'_>) -> Times {
+    Times {
+        beat: number_in(matches, "beat"),
+        suspect: number_in(matches, "suspect"),
+        stall: number_in(matches, "stall"),
+        idle: number_in(matches, "idle"),
+        take: number_in(matches, "take"),
     }
-    let (suffix, manager) = names_in(alloc, matches)?;
+}
+
+/// What a replica is told that is one of these.
+fn settings_in<'a>(
+    alloc: Global,
+    matches: &ArgMatches<'a>,
+    peers: &[Peer<'_>],
+) -> Result<Settings<'a>, Error> {
+    let index = number_in(matches, "id");
+    let Some(own) = peers.get(index as usize) else {
+        return Err(refusal(alloc, "the id is not below the number of PEERs"));
+    };
+    let suffix = text_in(alloc, matches, "suffix")?;
+    let manager = text_in(alloc, matches, "manager")?;
     let password = password_in(alloc, matches)?;
     let metrics = metrics_in(alloc, matches)?;
     let logs = logs_in(alloc, matches)?;
-    judge_times(
-        alloc,
-        number_in(matches, "beat"),
-        number_in(matches, "suspect"),
-    )?;
-    if let Some(own) = peers.get(index as usize) {
-        judge_build(alloc, own, metrics, matches.get_flag("unproved"))?;
-    }
-    Ok(Serving {
+    let times = times_in(matches);
+    judge_times(alloc, times.beat, times.suspect)?;
+    judge_build(alloc, own, metrics, matches.get_flag("unproved"))?;
+    Ok(Settings {
         cluster: number_in(matches, "cluster"),
         index,
-        store: text_in(matches, "store"),
+        store: value_in(matches, "store"),
         journal: matches.get_str("journal"),
         suffix,
         manager,
@@ -498,16 +491,21 @@ pub fn serving_in<'a>(alloc: Global, matches: &ArgMatches<'a>) -> Result<Serving
         seats: number_in(matches, "seats"),
         sessions: number_in(matches, "sessions"),
         updates: number_in(matches, "updates"),
-        beat: number_in(matches, "beat"),
-        suspect: number_in(matches, "suspect"),
-        stall: number_in(matches, "stall"),
-        idle: number_in(matches, "idle"),
-        take: number_in(matches, "take"),
-        memory_for_clients: amount_in(matches, "memory-for-clients"),
+        times,
+        memory_for_clients: matches.get_one::<u64>("memory-for-clients"),
         metrics,
         logs,
         slow: number_in(matches, "slow"),
         fresh: matches.get_flag("fresh"),
-        peers,
     })
+}
+
+/// What `serve` is told.
+pub fn serving_in<'a>(alloc: Global, matches: &ArgMatches<'a>) -> Result<Serving<'a>, Error> {
+    judge_numbers(alloc, matches)?;
+    let peers = peers_in(alloc, matches.get_strs("PEER").unwrap_or(&[]))?;
+    match settings_in(alloc, matches, &peers) {
+        Ok(settings) => Ok(Serving { settings, peers }),
+        Err(error) => Err(error),
+    }
 }

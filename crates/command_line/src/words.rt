@@ -201,20 +201,12 @@ fn program<'a>(alloc: Global) -> Command<'a> {
         .arg_required_else_help(true)
 }
 
-/// The program's words with one command more.
-fn with_order<'a>(
-    alloc: Global,
-    command: Command<'a>,
-    order: &CommandSpec,
-) -> Result<Command<'a>, AllocError> {
-    command.subcommand(command_of(alloc, order)?)
-}
-
 /// All words.
 fn command<'a>(alloc: Global) -> Result<Command<'a>, AllocError> {
     let mut command = program(alloc);
     for order in COMMANDS {
-        command = with_order(alloc, command, order)?;
+        let inner = command_of(alloc, order)?;
+        command = command.subcommand(inner)?;
     }
     Ok(command)
 }
@@ -250,13 +242,23 @@ pub fn as_text<'a>(alloc: Global, word: &'a str) -> Result<&'a str, Error> {
     Ok(word)
 }
 
+/// What stands behind a word, which is there.
+pub fn value_in<'a>(matches: &ArgMatches<'a>, name: &str) -> &'a str {
+    matches.get_str(name).unwrap_or("")
+}
+
+/// The same, which has to be a text.
+pub fn text_in<'a>(alloc: Global, matches: &ArgMatches<'a>, name: &str) -> Result<&'a str, Error> {
+    as_text(alloc, value_in(matches, name))
+}
+
 /// The words for what is shown of each entry.
 fn attributes_in<'a>(alloc: Global, matches: &ArgMatches<'a>) -> Result<Vec<&'a str>, Error> {
-    let mut attributes = Vec::new(alloc);
-    for word in matches.get_strs("ATTR").unwrap_or(&[]) {
-        attributes.push(as_text(alloc, *word)?)?;
+    let words = matches.get_strs("ATTR").unwrap_or(&[]);
+    for word in words {
+        as_text(alloc, *word)?;
     }
-    Ok(attributes)
+    Ok(words.to_vec(alloc)?)
 }
 
 /// What records are added to.
@@ -276,26 +278,20 @@ fn ground_in<'a>(alloc: Global, matches: &ArgMatches<'a>) -> Result<Ground<'a>, 
 fn checking_in<'a>(alloc: Global, matches: &ArgMatches<'a>) -> Result<Checking<'a>, Error> {
     Ok(Checking {
         ground: ground_in(alloc, matches)?,
-        file: matches.get_str("FILE").unwrap_or(""),
+        file: value_in(matches, "FILE"),
     })
 }
 
 /// What `search` is told.
 fn question_in<'a>(alloc: Global, matches: &ArgMatches<'a>) -> Result<Question<'a>, Error> {
-    let attributes = attributes_in(alloc, matches)?;
     Ok(Question {
         ground: ground_in(alloc, matches)?,
         explains: matches.get_flag("explain"),
-        base: as_text(alloc, matches.get_str("BASE").unwrap_or(""))?,
-        scope: scope_of(matches.get_str("SCOPE").unwrap_or("")),
-        filter: as_text(alloc, matches.get_str("FILTER").unwrap_or(""))?,
-        attributes,
+        base: text_in(alloc, matches, "BASE")?,
+        scope: scope_of(value_in(matches, "SCOPE")),
+        filter: text_in(alloc, matches, "FILTER")?,
+        attributes: attributes_in(alloc, matches)?,
     })
-}
-
-/// The words as they were matched.
-fn match_words<'a>(alloc: Global, words: &'a [String]) -> Result<ArgMatches<'a>, Error> {
-    command(alloc)?.try_get_matches_from(words)
 }
 
 /// What matched words ask for.
@@ -315,6 +311,6 @@ fn job_in<'a>(alloc: Global, matches: &ArgMatches<'a>) -> Result<Job<'a>, Error>
 /// Reads the words of the command line, the program's name first. One that isn't UTF-8 comes with a NUL in it, and is
 /// refused anywhere but as the name of a file, which then can't be read.
 pub fn read_words<'a>(alloc: Global, words: &'a [String]) -> Result<Job<'a>, Error> {
-    let matches = match_words(alloc, words)?;
+    let matches = command(alloc)?.try_get_matches_from(words)?;
     job_in(alloc, &matches)
 }

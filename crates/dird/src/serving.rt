@@ -72,7 +72,7 @@ fn terms_of(
 ) -> Result<Terms, AllocError> {
     let clients = clients_of(alloc, places)?;
     let schema = text_in(&service.schema_text);
-    Ok(Terms::of(schema, service.words.suffix, &clients))
+    Ok(Terms::of(schema, service.words.settings.suffix, &clients))
 }
 
 /// A file's option, and the file's name behind it, except one that isn't UTF-8.
@@ -124,11 +124,11 @@ where
         + Sync,
     N: Read + Drop + Send,
 {
-    let (store, journal) = (service.words.store, service.words.journal);
+    let settings = service.words.settings;
     let Err(fault) = serve_service(rt, alloc, service) else {
         return ExitStatus::Done;
     };
-    let _ = match text_of(alloc, &fault, store, journal) {
+    let _ = match text_of(alloc, &fault, settings.store, settings.journal) {
         Ok(text) => writeln!(faults, "{text}"),
         Err(_) => writeln!(faults, "out of memory"),
     };
@@ -159,7 +159,8 @@ where
         schema_text: _,
         words,
     } = service;
-    let Some(cluster) = Cluster::new(words.cluster) else {
+    let settings = words.settings;
+    let Some(cluster) = Cluster::new(settings.cluster) else {
         return Err(ServerError::ForeignCluster);
     };
     // The options live as long as what they borrow here.
@@ -176,34 +177,34 @@ where
             indexes,
             suffix,
             cluster,
-            index: words.index,
+            index: settings.index,
             count: words.peers.len() as u64,
         },
         manager,
         password: &password,
-        store: words.store,
-        journal: words.journal,
-        is_fresh: words.fresh,
-        seats: words.seats as usize,
-        sessions: words.sessions as usize,
-        updates: words.updates as usize,
-        memory_for_clients: words.memory_for_clients,
+        store: settings.store,
+        journal: settings.journal,
+        is_fresh: settings.fresh,
+        seats: settings.seats as usize,
+        sessions: settings.sessions as usize,
+        updates: settings.updates as usize,
+        memory_for_clients: settings.memory_for_clients,
         times: Times {
-            beat: Duration::from_millis(words.beat),
-            suspect: Duration::from_millis(words.suspect),
+            beat: Duration::from_millis(settings.times.beat),
+            suspect: Duration::from_millis(settings.times.suspect),
         },
         limits: Limits {
-            message: Duration::from_millis(words.stall),
-            idle: Duration::from_millis(words.idle),
-            write: Duration::from_millis(words.take),
+            message: Duration::from_millis(settings.times.stall),
+            idle: Duration::from_millis(settings.times.idle),
+            write: Duration::from_millis(settings.times.take),
         },
         places: &places,
         terms,
-        metrics: words.metrics,
+        metrics: settings.metrics,
         logs: Logs {
-            connections: words.logs.connections,
-            updates: words.logs.updates,
-            slow: words.slow,
+            connections: settings.logs.connections,
+            updates: settings.logs.updates,
+            slow: settings.slow,
         },
     };
     serve(rt, alloc, options)

@@ -76,12 +76,12 @@ pub fn service_of<'a, S: ReadFiles>(
     alloc: Global,
     words: Serving<'a>,
 ) -> Result<Service<'a>, Refusal> {
-    let schema_text = text_of(files, alloc, words.schema)?;
-    let schema = schema_told(alloc, words.schema, &schema_text)?;
-    let indexes = indexes_of(files, alloc, &schema, words.indexes)?;
-    let suffix = name_behind(alloc, &schema, "--suffix", words.suffix)?;
-    let manager = name_behind(alloc, &schema, "--manager", words.manager)?;
-    let password = password_of(files, alloc, words.password)?;
+    let schema_text = text_of(files, alloc, words.settings.schema)?;
+    let schema = schema_told(alloc, words.settings.schema, &schema_text)?;
+    let indexes = indexes_of(files, alloc, &schema, words.settings.indexes)?;
+    let suffix = name_behind(alloc, &schema, "--suffix", words.settings.suffix)?;
+    let manager = name_behind(alloc, &schema, "--manager", words.settings.manager)?;
+    let password = password_of(files, alloc, words.settings.password)?;
     Ok(Service {
         schema,
         indexes,
