@@ -5,7 +5,7 @@ ghost use Rattle.std.specs.Str.{is_utf8};
 ghost use Rattle.lab_script.specs.Cuts as cuts;
 
 /// A text cut in two, without what it was cut at.
-#[derive(Clone, Copy, Debug)]
+#[derive(Clone, Copy)]
 pub struct Cut<'a> {
     pub front: &'a [u8],
     pub behind: &'a [u8],

@@ -8,7 +8,7 @@ use std::alloc::{AllocError, AllocFailed};
 use thiserror::Error;
 
 /// Why a line names no event.
-#[derive(Clone, Copy, Debug, PartialEq, Eq, Error)]
+#[derive(Clone, Copy, Debug, Error)]
 pub enum LineError {
     /// It isn't in the language.
     #[error("bad line")]
@@ -34,7 +34,7 @@ impl<T: Drop> From<AllocFailed<T>> for LineError {
 }
 
 /// Why a script isn't played.
-#[derive(Clone, Copy, Debug, PartialEq, Eq, Error)]
+#[derive(Clone, Copy, Debug, Error)]
 pub enum ScriptError {
     /// The line with this number isn't in the language. The first line has number 1.
     #[error("bad line {number}")]

@@ -7,7 +7,7 @@ ghost use Rattle.lab_script.specs.private.Kinds.{kind_view};
 use crate::cuts::cut_text;
 
 /// What a text is by its first word, and what stands behind that and one space.
-#[derive(Clone, Copy, Debug)]
+#[derive(Clone, Copy)]
 pub enum Kind<'a> {
     Noop,
     Add(&'a [u8]),

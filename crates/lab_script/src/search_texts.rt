@@ -19,7 +19,7 @@ use ldif::{DerefAliases, Scope, SearchRequest};
 use std::alloc::Global;
 
 /// The parts of a search's text.
-#[derive(Clone, Copy, Debug)]
+#[derive(Clone, Copy)]
 struct Parts<'a> {
     base: &'a [u8],
     scope: Scope,

@@ -7,7 +7,7 @@ use filter_text::number_of_digits;
 use std::alloc::{AllocError, Global};
 
 /// A word of the language, or a number.
-#[derive(Clone, Copy, Debug, PartialEq, Eq)]
+#[derive(Clone, Copy)]
 pub enum Token {
     Replicas,
     Deliver,
