@@ -33,7 +33,7 @@ fn line_of(
     let path = shown(alloc, path.as_bytes())?;
     let word = code_word(code);
     let told = record_told(alloc, schema, records, number, code)?;
-    format!(in alloc; "{path} {told} (code {code}, {word})")
+    format!(in alloc; "{path} {told} (code {code}, {word})\n")
 }
 
 /// The lines of the refused records, as far as they are printed.
@@ -52,7 +52,6 @@ fn lines_of(
     for record in refused.iter().take(MOST) {
         let line = line_of(alloc, schema, path, &records, *record)?;
         lines.push_str(&line)?;
-        lines.push_str("\n")?;
     }
     Ok(lines)
 }

@@ -98,14 +98,16 @@ fn cost_of(
     }
 }
 
-/// Writes a filter with what it costs.
+/// Writes a filter with what its request costs.
 fn write_cost<W: Write>(
     alloc: Global,
+    empty: &EmptyDirectory,
+    store: &Store,
     filter: &str,
-    cost: Cost,
+    request: &SearchRequest,
     output: &mut W,
 ) -> Result<(), Refusal> {
-    let Cost { shown, tests } = cost;
+    let Cost { shown, tests } = cost_of(alloc, empty, store, request)?;
     match writeln!(output, "{filter}: {shown} shown, {tests} evaluated") {
         Ok(()) => Ok(()),
         Err(error) => Err(write_refusal(alloc, error.kind())),
@@ -125,12 +127,10 @@ pub fn explain_input<R: BufRead, W: Write>(
     let items = items_of(alloc, &request.filter)?;
     let text = read_all(alloc, input)?;
     let store = fill_store(alloc, empty, &text, question.base)?;
-    let whole = cost_of(alloc, empty, &store, &request)?;
-    write_cost(alloc, question.filter, whole, output)?;
-    for item in items.iter() {
+    write_cost(alloc, empty, &store, question.filter, &request, output)?;
+    for item in &items {
         let request = request_of(alloc, question, item.as_str())?;
-        let cost = cost_of(alloc, empty, &store, &request)?;
-        write_cost(alloc, item.as_str(), cost, output)?;
+        write_cost(alloc, empty, &store, item.as_str(), &request, output)?;
     }
     Ok(())
 }

@@ -9,7 +9,7 @@ use ldif_faults::{RecordFaults, hex_line_fault, ldif_fault};
 use local_directory::{ExportError, ImportError, Schema, SearchError};
 use schema_faults::{IndexRefusal, SchemaRefusal, index_fault, schema_fault};
 use std::alloc::{AllocError, Global};
-use text_faults::{code_word, filter_fault, name_fault, script_fault, shown};
+use text_faults::{code_word, filter_fault, name_fault, said, script_fault, shown};
 
 /// The names that each schema has to have, those of the directory's root and of the manager.
 const NAMES: &[(&str, &str)] = &[
@@ -55,11 +55,6 @@ fn in_word(
     format!(in alloc; "{word}: {told}")
 }
 
-/// A sentence that is always the same.
-fn sentence(alloc: Global, words: &str) -> Result<String, AllocError> {
-    String::from_str(alloc, words)
-}
-
 /// Which rule of schemas a number is of.
 fn schema_rule(number: u32) -> Option<SchemaRefusal> {
     match number {
@@ -85,7 +80,7 @@ fn index_rule(number: u32) -> Option<IndexRefusal> {
 pub fn schema_refusal(alloc: Global, path: &str, text: &str, fault: Fault) -> Refusal
     ensures { result.fault ≡ fault }
 {
-    let Fault::Placed { number, place } = fault else {
+    let Fault::Placed(number, place) = fault else {
         return Refusal::from(fault);
     };
     match schema_rule(number) {
@@ -107,7 +102,7 @@ pub fn index_refusal(
 ) -> Refusal
     ensures { result.fault ≡ fault }
 {
-    let Fault::Placed { number, place } = fault else {
+    let Fault::Placed(number, place) = fault else {
         return Refusal::from(fault);
     };
     match index_rule(number) {
@@ -143,12 +138,9 @@ pub fn filter_refusal(alloc: Global, text: &str, fault: Fault) -> Refusal
     ensures { result.fault ≡ fault }
 {
     let told = match fault {
-        Fault::Placed { place, .. } => filter_told(alloc, text, place),
-        Fault::TooDeep => sentence(alloc, "FILTER: more than 128 filters, one in another"),
-        Fault::TooManyItems => sentence(
-            alloc,
-            "FILTER: more than 512 items and filters round them",
-        ),
+        Fault::Placed(_, place) => filter_told(alloc, text, place),
+        Fault::TooDeep => said(alloc, "FILTER: more than 128 filters, one in another"),
+        Fault::TooManyItems => said(alloc, "FILTER: more than 512 items and filters round them"),
         _ => return Refusal::from(fault),
     };
     Refusal::with_explanation(fault, told)
@@ -163,8 +155,8 @@ pub fn import_refusal(alloc: Global, text: &[u8], error: ImportError) -> Refusal
         ImportError::BadLdif { line, cause } => {
             in_input(alloc, line, ldif_fault(alloc, text, line, cause))
         }
-        ImportError::TooLong => sentence(alloc, "a record is over 4294967295 octets long"),
-        ImportError::TooManyRecords => sentence(alloc, "there are over 2147483647 records"),
+        ImportError::TooLong => said(alloc, "a record is over 4294967295 octets long"),
+        ImportError::TooManyRecords => said(alloc, "there are over 2147483647 records"),
         ImportError::NoMemory => return Refusal::from(fault),
     };
     Refusal::with_explanation(fault, told)
@@ -186,11 +178,11 @@ pub fn export_refusal(alloc: Global, text: &[u8], error: ExportError) -> Refusal
             in_input(alloc, line, hex_line_fault(alloc, text, line))
         }
         ExportError::Code { number } => code_told(alloc, number),
-        ExportError::NoDoneMessage => sentence(
+        ExportError::NoDoneMessage => said(
             alloc,
             "the input ends without the response that ends a search (searchResDone)",
         ),
-        ExportError::BadMessage => sentence(
+        ExportError::BadMessage => said(
             alloc,
             "a line is no entry of a search (searchResEntry) that LDIF can show, nor its end",
         ),
@@ -233,7 +225,7 @@ fn answer_told(
     number: u32,
 ) -> Result<String, AllocError> {
     match number {
-        32 => sentence(alloc, "BASE: no entry has this name"),
+        32 => said(alloc, "BASE: no entry has this name"),
         34 => in_word(alloc, "BASE", name_fault(alloc, schema, base)),
         _ => code_told(alloc, number),
     }
@@ -286,19 +278,14 @@ fn line_of(lines: &[Vec<u8>], number: u64) -> &[u8] {
     }
 }
 
-/// What is wrong with a line of a script.
-fn script_told(alloc: Global, lines: &[Vec<u8>], number: u64) -> Result<String, AllocError> {
-    let told = script_fault(alloc, line_of(lines, number), number)?;
-    format!(in alloc; "line {number}: {told}")
-}
-
 /// The fault of a lab script.
 pub fn script_refusal(alloc: Global, lines: &[Vec<u8>], fault: Fault) -> Refusal
     ensures { result.fault ≡ fault }
 {
     match fault {
         Fault::BadLine(number) => {
-            Refusal::with_explanation(fault, script_told(alloc, lines, number))
+            let told = script_fault(alloc, line_of(lines, number), number);
+            Refusal::with_explanation(fault, in_input(alloc, number as usize, told))
         }
         _ => Refusal::from(fault),
     }
@@ -315,9 +302,9 @@ pub fn session_refusal(alloc: Global, fault: Fault) -> Refusal
 {
     let told = match fault {
         Fault::BadHexLine(number) => hex_told(alloc, number),
-        Fault::TooLong => sentence(alloc, "a response is over 4294967295 octets long"),
-        Fault::CannotRead => sentence(alloc, "standard input: a read failed"),
-        Fault::CannotWrite => sentence(alloc, "standard output: a write failed"),
+        Fault::TooLong => said(alloc, "a response is over 4294967295 octets long"),
+        Fault::CannotRead => said(alloc, "standard input: a read failed"),
+        Fault::CannotWrite => said(alloc, "standard output: a write failed"),
         _ => return Refusal::from(fault),
     };
     Refusal::with_explanation(fault, told)

@@ -1,7 +1,7 @@
 //! What ends a run early, with the text that goes to standard error.
 
 ghost use Rattle.std.specs.Prelude.{◌≡◌};
-ghost use Rattle.dird_commands.specs.declared.fault.Fault.TheVariants.{Placed, NoMemory};
+ghost use Rattle.dird_commands.specs.declared.fault.Fault.TheVariants.{NoMemory};
 
 use filter_text::FilterTextError;
 use lab_script::ScriptError;
@@ -14,8 +14,9 @@ use thiserror::Error;
 /// line or the place that it is of.
 #[derive(Clone, Copy, Debug, Error)]
 pub enum Fault {
-    #[error("E{number} {place}")]
-    Placed { number: u32, place: usize },
+    /// A refusal's number, and the line or the place that it is of.
+    #[error("E{0} {1}")]
+    Placed(u32, usize),
     #[error("bad name")]
     BadName,
     #[error("E9")]
@@ -75,20 +76,13 @@ impl From<ScriptError> for Fault {
     }
 }
 
-/// The refusal of this number at a line or a place.
-fn at_place(number: u32, place: usize) -> Fault
-    ensures { result ≡ Placed number place }
-{
-    Fault::Placed { number, place }
-}
-
 impl From<SchemaError> for Fault {
     fn from(error: SchemaError) -> Fault {
         match error {
-            SchemaError::BadDescription { line } => at_place(12, line),
-            SchemaError::UnknownName { line } => at_place(13, line),
-            SchemaError::LoopInSup { line } => at_place(14, line),
-            SchemaError::NoEquality { line } => at_place(15, line),
+            SchemaError::BadDescription { line } => Fault::Placed(12, line),
+            SchemaError::UnknownName { line } => Fault::Placed(13, line),
+            SchemaError::LoopInSup { line } => Fault::Placed(14, line),
+            SchemaError::NoEquality { line } => Fault::Placed(15, line),
             SchemaError::NoMemory => Fault::NoMemory,
         }
     }
@@ -97,9 +91,9 @@ impl From<SchemaError> for Fault {
 impl From<IndexError> for Fault {
     fn from(error: IndexError) -> Fault {
         match error {
-            IndexError::BadDescription { line } => at_place(12, line),
-            IndexError::UnknownName { line } => at_place(13, line),
-            IndexError::IndexWithoutRule { line } => at_place(16, line),
+            IndexError::BadDescription { line } => Fault::Placed(12, line),
+            IndexError::UnknownName { line } => Fault::Placed(13, line),
+            IndexError::IndexWithoutRule { line } => Fault::Placed(16, line),
             IndexError::NoMemory => Fault::NoMemory,
         }
     }
@@ -112,7 +106,7 @@ impl From<FilterTextError> for Fault {
 
     fn from(error: FilterTextError) -> Fault {
         match error {
-            FilterTextError::BadFilterText { at } => at_place(18, at),
+            FilterTextError::BadFilterText { at } => Fault::Placed(18, at),
             FilterTextError::TooDeep => Fault::TooDeep,
             FilterTextError::TooManyItems => Fault::TooManyItems,
             FilterTextError::NoMemory => Fault::NoMemory,

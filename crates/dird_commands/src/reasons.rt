@@ -5,7 +5,7 @@ use crate::fault::Fault;
 use crate::refusal::Refusal;
 use std::alloc::{AllocError, Global};
 use std::io::ErrorKind;
-use text_faults::shown;
+use text_faults::{about_word, about_words, shown};
 
 /// The words for the kinds that an administrator meets; the others have std's.
 const REASONS: &[(ErrorKind, &str)] = &[
@@ -22,21 +22,23 @@ const REASONS: &[(ErrorKind, &str)] = &[
     (ErrorKind::BrokenPipe, "its reader has ended"),
 ];
 
-/// Why the system refuses.
-fn reason(alloc: Global, kind: ErrorKind) -> Result<String, AllocError> {
+/// Why the system refuses, where that is in the table.
+fn reason(kind: ErrorKind) -> Option<&'static str> {
     for (known, words) in REASONS {
         if *known == kind {
-            return String::from_str(alloc, words);
+            return Some(*words);
         }
     }
-    format!(in alloc; "{kind}")
+    None
 }
 
 /// What can't be read or written, and why.
 fn because(alloc: Global, what: &str, kind: ErrorKind) -> Result<String, AllocError> {
     let what = shown(alloc, what.as_bytes())?;
-    let reason = reason(alloc, kind)?;
-    format!(in alloc; "{what}: {reason}")
+    match reason(kind) {
+        Some(words) => format!(in alloc; "{what}: {words}"),
+        None => format!(in alloc; "{what}: {kind}"),
+    }
 }
 
 /// A named file, or the input, that can't be read.
@@ -58,11 +60,15 @@ pub fn write_refusal(alloc: Global, kind: ErrorKind) -> Refusal
 
 /// A file of a secret that others may read.
 pub fn open_to_others(alloc: Global, path: &str) -> Refusal {
-    let name = shown(alloc, path.as_bytes());
-    let told = match name {
-        Ok(name) => format!(in alloc; "{name}: group or others may read it: chmod 600 {name}"),
-        Err(error) => Err(error),
-    };
+    let path = path.as_bytes();
+    let told = about_words(
+        alloc,
+        "",
+        path,
+        ": group or others may read it: chmod 600 ",
+        path,
+        "",
+    );
     Refusal::with_explanation(Fault::OpenToOthers, told)
 }
 
@@ -70,11 +76,11 @@ pub fn open_to_others(alloc: Global, path: &str) -> Refusal {
 pub fn no_password_in(alloc: Global, path: &str) -> Refusal
     ensures { result.fault ≡ Fault.NoPassword }
 {
-    let told = match shown(alloc, path.as_bytes()) {
-        Ok(name) => format!(in alloc;
-            "--password-file: the first line of {name} is empty: write the manager's password there"
-        ),
-        Err(error) => Err(error),
-    };
+    let told = about_word(
+        alloc,
+        "--password-file: the first line of ",
+        path.as_bytes(),
+        " is empty: write the manager's password there",
+    );
     Refusal::with_explanation(Fault::NoPassword, told)
 }
