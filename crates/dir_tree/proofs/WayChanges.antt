@@ -1,5 +1,5 @@
 -- Sets of numbers along a way up, as they change one by one.
-use Rattle.std.proofs.Common.{◌≡◌, ℕ, suc, Bool, true, false, cond, List, ◌||◌, refl, sym, ap, ◌∙◌, nat_eq, Option, Some, None}
+use Rattle.std.proofs.Common.{◌≡◌, ℕ, suc, Bool, true, false, cond, List, ◌||◌, refl, sym, ap, ◌∙◌, subst, nat_eq, Option, Some, None}
 use Rattle.std.specs.Prelude.{◌&&◌, not}
 use Rattle.dir_entry.specs.shared_map.Sets.{has_number}
 use Rattle.dir_tree.specs.declared.place.Below.{Below}
@@ -168,6 +168,21 @@ moved_after k old new i p b b1 b2 b3 b4 n n1 n2 n4 up up' ks l e e' f u v w y sa
         (has_number j (b a).within)) e
         ∙ ap (λ (o : Option ℕ). over_after (is_above i p a old) (over_any i p a o) (is_over i p k j)
         (has_number j (b a).within)) e'
+
+-- from no place to one, where nothing was kept of the number
+pub new_after : (k : ℕ) (new : Option Place) (i : ℕ) (p : Places) (b b2 b4 before : ℕ → Below) (n n2 n4 : Steps)
+    (up : Option ℕ) (ks : List ℕ) → IsListed i p b
+    → p k ≡ None → up ≡ above_in new → ks ≡ (b k).within → IsLinked k new n n2 b b2
+    → IsJoined (λ x. over_any i p x up) before None ks b2 b4 → ((a : ℕ) (x : List TypeAndKey) → (b4 a).names ≡
+    (b2 a).names → n4 a x ≡ n2 a x)
+    → IsAfter k (p k) new i p n n4 b b4
+new_after k new i p b b2 b4 before n n2 n4 up ks l absent e f v y same =
+    let none : Option ℕ = None in
+    subst (λ (o : Option Place). IsAfter k o new i p n n4 b b4) (sym absent)
+    (moved_after k None new i p b b b2 b2 b4 n n n2 n4 none up ks l refl e f
+    (record { steps = λ a x. refl; children = λ a j. refl; within = λ a. refl }) v
+    (record { names = λ x. refl; children = λ x. refl; within = λ x j. refl })
+    (record { names = y.names; children = y.children; within = y.within }) same)
 
 -- from a place to none
 pub left_after : (k : ℕ) (old : Option Place) (i : ℕ) (p : Places) (b b1 b2 : ℕ → Below) (n n1 n2 : Steps)

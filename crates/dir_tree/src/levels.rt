@@ -6,13 +6,15 @@ ghost use Rattle.std.specs.Option.{option_map, option_map_or};
 ghost use Rattle.dir_entry.specs.ldap_dn.Names.{TypeAndKey, are_same_keys};
 ghost use Rattle.dir_entry.specs.shared_map.Sets.{has_number};
 ghost use Rattle.dir_tree.specs.private.Superiors.{alone, below_at, step_at, number_among};
+ghost use Rattle.dir_tree.specs.private.Changes.{kept_or, child_put, within_put};
 
 use crate::digested_names::{DigestedRdn, SoughtRdn};
 use crate::number_sets::{joined, parted};
 use crate::place::{Below, Levels};
 use crate::shared_names::SharedRdn;
-use dir_entry::{NumberSet, Rdn, Shared, SharedMap};
+use dir_entry::{NumberSet, Rdn, Shared, SharedMap, ValueChange};
 use std::alloc::{AllocError, Global};
+use std::mem::replace;
 
 /// The number of a relative name.
 #[tactic(auto, using(crate::proofs::LevelFacts::among_find))]
@@ -41,11 +43,7 @@ fn shared_at(levels: &Levels, number: u64) -> Result<Below, AllocError>
 {
     match levels.get(&number) {
         Some(below) => below.share(),
-        None => Ok(Below {
-            names: SharedMap::new(),
-            children: NumberSet::new(),
-            within: NumberSet::of_one(number),
-        }),
+        None => Ok(Below::alone(number)),
     }
 }
 
@@ -71,25 +69,81 @@ pub fn without_below(alloc: Global, levels: &Levels, number: u64) -> Result<Leve
     levels.without(alloc, &number)
 }
 
+/// An entry that comes right under a number.
+#[derive(Drop)]
+struct Child {
+    above: u64,
+    rdn: SharedRdn,
+    number: u64,
+}
+
+impl ValueChange<Below> for Child {
+    ghost becomes = { λ c o. child_put (kept_or o c.above) c.rdn c.number };
+
+    fn first(self, alloc: Global) -> Result<Below, AllocError> {
+        Below::alone(self.above).with_child(alloc, self.rdn, self.number)
+    }
+
+    fn alter(self, alloc: Global, value: &mut Below) -> Result<(), AllocError> {
+        let below = replace(value, Below::alone(self.above));
+        *value = below.with_child(alloc, self.rdn, self.number)?;
+        Ok(())
+    }
+}
+
+/// A number that comes to stand at or below another one.
+#[derive(Drop)]
+struct Joining {
+    at: u64,
+    number: u64,
+}
+
+impl ValueChange<Below> for Joining {
+    ghost becomes = { λ j o. within_put (kept_or o j.at) j.number };
+
+    fn first(self, alloc: Global) -> Result<Below, AllocError> {
+        Below::alone(self.at).with_number(alloc, self.number)
+    }
+
+    fn alter(self, alloc: Global, value: &mut Below) -> Result<(), AllocError> {
+        let below = replace(value, Below::alone(self.at));
+        *value = below.with_number(alloc, self.number)?;
+        Ok(())
+    }
+}
+
 /// An entry more right under a number; the sets of what stands at or below numbers stay.
 pub fn with_child(
     alloc: Global,
-    levels: &Levels,
+    levels: Levels,
     above: u64,
     rdn: SharedRdn,
     number: u64,
 ) -> Result<Levels, AllocError>
     ensures steps { IfOk result (λ m. (a : ℕ) (x : List TypeAndKey) → step_at m a x
-        ≡ cond (nat_eq a above && are_same_keys x rdn.keys) (Some number) (step_at levels.now a x)) }
+        ≡ cond (nat_eq a above && are_same_keys x rdn.keys) (Some number) (step_at levels a x)) }
     ensures children { IfOk result (λ m. (a j : ℕ) → has_number j (below_at m a).children
-        ≡ ((nat_eq a above && nat_eq j number) || has_number j (below_at levels.now a).children)) }
-    ensures within { IfOk result (λ m. (a : ℕ) → (below_at m a).within
-        ≡ (below_at levels.now a).within) }
+        ≡ ((nat_eq a above && nat_eq j number) || has_number j (below_at levels a).children)) }
+    ensures within { IfOk result (λ m. (a : ℕ) → (below_at m a).within ≡ (below_at levels a).within) }
 {
-    let mut below = shared_at(levels, above)?;
-    below.names = below.names.with(alloc, DigestedRdn::new(rdn), number)?;
-    below.children = below.children.with(alloc, number)?;
-    with_below(alloc, levels, above, below)
+    let now = levels.alter(alloc, &above, Child { above, rdn, number })?;
+    Ok(now)
+}
+
+/// A number more at or below a number.
+pub fn with_number(
+    alloc: Global,
+    levels: Levels,
+    at: u64,
+    number: u64,
+) -> Result<Levels, AllocError>
+    ensures names { IfOk result (λ m. (a : ℕ) → (below_at m a).names ≡ (below_at levels a).names) }
+    ensures children { IfOk result (λ m. (a : ℕ) → (below_at m a).children ≡ (below_at levels a).children) }
+    ensures within { IfOk result (λ m. (a j : ℕ) → has_number j (below_at m a).within
+        ≡ ((nat_eq a at && has_number j (number ∷ [])) || has_number j (below_at levels a).within)) }
+{
+    let now = levels.alter(alloc, &at, Joining { at, number })?;
+    Ok(now)
 }
 
 /// An entry fewer right under a number; the sets of what stands at or below numbers stay.

@@ -1,11 +1,14 @@
 //! The directory's tree: finds entries by number and by name, and the numbers of those right under a name or at or
-//! below it. Each entry has its relative name and its superior's number. A tree is a value: a change makes new maps.
+//! below it. Each entry has its relative name and its superior's number. A tree is a value: a change makes new maps, or
+//! takes the tree and changes in place what has no other owner.
 //!
 //! Entries by number: attributes, own relative name, superior's number (`place`); the root's entry keeps its name
 //! whole. For each number with entries below it, `levels` has their relative names with their numbers, the numbers
 //! right under it, and those at or below it. All are maps and sets of `shared_map`, so a tree is a value, and versions
-//! share an entry behind a counted pointer (`shared`). A change (`updating`, over `roots`) makes new maps in locals and
-//! assigns them last; out of memory nothing has changed.
+//! share an entry behind a counted pointer (`shared`). A change (`updating`, over `roots`) takes the maps and gives
+//! them changed. An add changes in place the entries, the relative names of its superior and the sets above it, a
+//! change of attributes the entries; a rename makes new relative names and sets, a delete new maps. `add`, `delete`,
+//! `replace` and `rename` leave the maps, and assign others last; out of memory nothing has changed.
 //!
 //! A look-up by name takes two look-ups a relative name, from the root down (`finding`). It digests the relative name
 //! once and compares digests; a relative name that is kept is read only where its digest is equal (`digested_names`). A
@@ -18,11 +21,11 @@
 //!
 //! Proved: each look-up and scope is that of the list of entries (`Tree::find`, `entry`, `name`, `front`, `children`,
 //! `subtree`). An entry is added, taken out, changed, or moved with all below it, or nothing changes (`add`, `delete`,
-//! `replace`, `rename`). A second owner has the same tree (`share`). Entries are at or below the root, and a name has
-//! one or none (`is_directory`, `is_within`, `is_rooted`, `is_single`).
+//! `replace`, `rename`); of a tree that was taken nothing is left then (`added`, `deleted`, `replaced`, `renamed`). A
+//! second owner has the same tree (`share`). Entries are at or below the root, and a name has one or none
+//! (`is_directory`, `is_within`, `is_rooted`, `is_single`).
 #![tactic(auto)]
 
-mod comparing;
 mod digested_names;
 mod finding;
 mod levels;
@@ -39,7 +42,6 @@ mod tree;
 mod updating;
 mod visit;
 
-pub use comparing::is_over_parent;
 pub use dir_entry::{
     Attribute, Entry, EntryError, Name, NameError, NumberSet, NumberWalk, Octets, Rdn, Schema,
     Shared, Truth, TypeAndValue, TypeId, are_same, copy_values, is_of_syntax, number_of_digits,

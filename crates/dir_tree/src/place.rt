@@ -1,12 +1,14 @@
 // What is kept of each number: where its entry stands, and what stands below it.
 
-ghost use Rattle.std.specs.Prelude.{◌≡◌, ◌∷◌, []};
+ghost use Rattle.std.specs.Prelude.{◌≡◌, ◌∷◌, [], IfOk};
+ghost use Rattle.dir_tree.specs.private.Superiors.{alone};
+ghost use Rattle.dir_tree.specs.private.Changes.{child_put, within_put};
 
 use crate::digested_names::DigestedRdn;
 use crate::shared::SharedEntry;
 use crate::shared_names::{SharedName, SharedRdn};
 use dir_entry::{NumberSet, Shared, SharedMap};
-use std::alloc::AllocError;
+use std::alloc::{AllocError, Global};
 
 /// Where an entry stands.
 pub enum Place {
@@ -114,6 +116,54 @@ impl Drop for Below {
             children: _,
             within: _,
         } = self;
+    }
+}
+
+impl Below {
+    /// What is kept of an entry that nothing stands below.
+    pub fn alone(number: u64) -> Below
+        ensures { result ≡ alone number }
+    {
+        Below {
+            names: SharedMap::new(),
+            children: NumberSet::new(),
+            within: NumberSet::of_one(number),
+        }
+    }
+
+    /// The same with an entry more right under it.
+    pub fn with_child(self, alloc: Global, rdn: SharedRdn, number: u64) -> Result<Below, AllocError>
+        ensures { IfOk result (λ b. b ≡ child_put self rdn number) }
+    {
+        let Below {
+            names,
+            children,
+            within,
+        } = self;
+        let names = names.insert(alloc, DigestedRdn::new(rdn), number)?;
+        let children = children.insert(alloc, number)?;
+        Ok(Below {
+            names,
+            children,
+            within,
+        })
+    }
+
+    /// The same with a number more at or below it.
+    pub fn with_number(self, alloc: Global, number: u64) -> Result<Below, AllocError>
+        ensures { IfOk result (λ b. b ≡ within_put self number) }
+    {
+        let Below {
+            names,
+            children,
+            within,
+        } = self;
+        let within = within.insert(alloc, number)?;
+        Ok(Below {
+            names,
+            children,
+            within,
+        })
     }
 }
 

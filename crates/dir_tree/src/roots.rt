@@ -1,8 +1,11 @@
-// A tree's maps, and how they change: a change makes new ones, which share with the old ones all that stays. Takes
-// numbers, places and attributes.
+// A tree's maps, and how they change: what other owners have too is copied, the rest changes in place where an entry is
+// new or has other attributes. Takes numbers, places and attributes.
 
-ghost use Rattle.std.specs.Prelude.{◌≡◌, ◌∷◌, [], ℕ, IfOk, Some, None, nat_eq};
+ghost use Rattle.std.specs.Prelude.{◌≡◌, ◌∷◌, [], ℕ, IfOk, Some, None, true, nat_eq};
 ghost use Rattle.std.specs.Option.{option_map_or};
+ghost use Rattle.std.specs.Ordering.{nat_cmp};
+ghost use Rattle.std.specs.BTreeMap.{insert_entry};
+ghost use Rattle.dir_entry.specs.shared_map.Entries.{Rises};
 ghost use Rattle.dir_entry.specs.ldap_dn.Names.{rdns};
 ghost use Rattle.dir_tree.specs.Directory.{replaced};
 ghost use Rattle.dir_tree.specs.Superiors.{place_at};
@@ -12,7 +15,7 @@ ghost use Rattle.dir_tree.specs.private.Kept.{IsTree, IsPlaced, IsRemoved, root_
 ghost use Rattle.dir_tree.specs.private.Changes.{IsAfter, IsJoined, IsParted, IsLinked, IsUnlinked, over_any, place_of};
 
 use crate::levels::{
-    is_within, with_child, with_within, without_below, without_child, without_within,
+    is_within, with_child, with_number, with_within, without_below, without_child, without_within,
 };
 use crate::place::{Entries, Levels, Place, Standing};
 use crate::reach::Reach;
@@ -118,7 +121,7 @@ fn linked(alloc: Global, levels: Levels, number: u64, place: &Place) -> Result<L
 {
     match place {
         Place::Root(_) => Ok(levels),
-        Place::Under(above, rdn) => with_child(alloc, &levels, *above, rdn.share()?, number),
+        Place::Under(above, rdn) => with_child(alloc, levels, *above, rdn.share()?, number),
     }
 }
 
@@ -136,6 +139,32 @@ fn unlinked_at(
         Place::Root(_) => levels.share(),
         Place::Under(above, rdn) => without_child(alloc, levels, *above, rdn.get(), number),
     }
+}
+
+/// The sets of a number and of those above it, with one more number.
+fn joined_above(
+    alloc: Global,
+    levels: Levels,
+    entries: &Entries,
+    reach: Reach,
+    from: Option<u64>,
+    number: u64,
+) -> Result<Levels, AllocError>
+    ensures { IfOk result (λ m. IsJoined (λ x. over_any reach (place_at entries.now) x from) (below_at levels) None
+        (number ∷ []) (below_at levels) (below_at m)) }
+{
+    let mut changed = levels;
+    let mut at = from;
+    for i in 0..reach.most() {
+        match at {
+            None => break,
+            Some(above) => {
+                changed = with_number(alloc, changed, above, number)?;
+                at = above_of(entries, above);
+            }
+        }
+    }
+    Ok(changed)
 }
 
 impl Roots {
@@ -279,23 +308,86 @@ impl Roots {
         self.parted_up(alloc, levels, old, None, &moving)
     }
 
-    /// The maps with an entry at a place, where it came to with all that stands below it.
+    /// Whether nothing is kept of a number.
+    fn is_new(&self, number: u64) -> bool
+        ensures absent { result ≡ true → place_at self.now.entries number ≡ None }
+        ensures alone { result ≡ true → (below_at self.now.levels number).within ≡ number ∷ [] }
+    {
+        match self.entries.get(&number) {
+            Some(_) => false,
+            None => match self.levels.get(&number) {
+                Some(_) => false,
+                None => true,
+            },
+        }
+    }
+
+    /// The maps with an entry at a place, where it came to with all that stands below it. What the maps alone own of
+    /// the entries, and where the entry is new all that they alone own, is changed where it stands.
     pub fn placed(
-        &self,
+        self,
         alloc: Global,
         number: u64,
         standing: Standing,
         root: Option<u64>,
         reach: Reach,
     ) -> Result<Roots, AllocError>
-        requires { IsListed self.now.reach (place_at self.now.entries) (below_at self.now.levels) }
-        ensures { IfOk result (λ r. IsPlaced self.now number standing root reach r) }
+        requires { IsListed self.reach (place_at self.entries) (below_at self.levels) }
+        ensures { IfOk result (λ r. IsPlaced self number standing root reach r) }
     {
+        if self.is_new(number) {
+            return self.placed_new(alloc, number, standing, root, reach);
+        }
         let levels = self.moved(alloc, number, &standing.place)?;
-        let entries = self.entries.with(alloc, number, standing)?;
+        let Roots {
+            suffix,
+            root: _,
+            reach: _,
+            entries,
+            levels: _,
+            none: _,
+        } = self;
+        let entries = entries.insert(alloc, number, standing)?;
         entries.rises();
         Ok(Roots {
-            suffix: self.suffix.share(alloc)?,
+            suffix,
+            root,
+            reach,
+            entries,
+            levels,
+            none: NumberSet::new(),
+        })
+    }
+
+    /// The maps with a new entry at a place. What they alone own is changed where it stands.
+    fn placed_new(
+        self,
+        alloc: Global,
+        number: u64,
+        standing: Standing,
+        root: Option<u64>,
+        reach: Reach,
+    ) -> Result<Roots, AllocError>
+        requires listed { IsListed self.reach (place_at self.entries) (below_at self.levels) }
+        requires absent { place_at self.entries number ≡ None }
+        requires alone { (below_at self.levels number).within ≡ number ∷ [] }
+        ensures { IfOk result (λ r. IsPlaced self number standing root reach r) }
+    {
+        let Roots {
+            suffix,
+            root: _,
+            reach: most,
+            entries,
+            levels,
+            none: _,
+        } = self;
+        let above = above_place(&standing.place);
+        let levels = linked(alloc, levels, number, &standing.place)?;
+        let levels = joined_above(alloc, levels, &entries, most, above, number)?;
+        let entries = entries.insert(alloc, number, standing)?;
+        entries.rises();
+        Ok(Roots {
+            suffix,
             root,
             reach,
             entries,
@@ -353,17 +445,18 @@ impl Roots {
         })
     }
 
-    /// The maps with other attributes of the entry of a number.
+    /// The maps with other attributes of the entry of a number. What they alone own of the entries is changed where it
+    /// stands.
     pub fn replaced(
-        &self,
+        self,
         alloc: Global,
         number: u64,
         entry: SharedEntry,
     ) -> Result<Roots, AllocError>
-        requires { IsTree self.now }
+        requires { IsTree self }
         ensures tree { IfOk result (λ r. IsTree r) }
-        ensures suffix { IfOk result (λ r. r.suffix ≡ self.now.suffix) }
-        ensures shown { IfOk result (λ r. shown r ≡ replaced number entry (shown self.now)) }
+        ensures suffix { IfOk result (λ r. r.suffix ≡ self.suffix) }
+        ensures shown { IfOk result (λ r. shown r ≡ replaced number entry (shown self)) }
     {
         match self.entries.get(&number) {
             Some(standing) => {
@@ -372,25 +465,41 @@ impl Roots {
                     own: standing.own.share()?,
                     entry,
                 };
-                let entries = self.entries.with(alloc, number, standing)?;
-                entries.rises();
-                self.with_entries(alloc, entries)
+                let roots = self.with_standing(alloc, number, standing)?;
+                Ok(roots)
             }
-            None => self.share(alloc),
+            None => Ok(self),
         }
     }
 
-    /// The same with other entries at the same places.
-    fn with_entries(&self, alloc: Global, entries: Entries) -> Result<Roots, AllocError>
-        ensures { IfOk result (λ r. r ≡ record self.now { entries = entries }) }
+    /// The maps with another entry of a number at the same place.
+    fn with_standing(
+        self,
+        alloc: Global,
+        number: u64,
+        standing: Standing,
+    ) -> Result<Roots, AllocError>
+        ensures is { IfOk result (λ r. r ≡
+            record self { entries = insert_entry nat_cmp self.entries number standing }) }
+        ensures rises { IfOk result (λ r. Rises nat_cmp r.entries) }
     {
-        Ok(Roots {
-            suffix: self.suffix.share(alloc)?,
-            root: self.root,
-            reach: self.reach,
+        let Roots {
+            suffix,
+            root,
+            reach,
             entries,
-            levels: self.levels.share()?,
-            none: self.none.share()?,
+            levels,
+            none,
+        } = self;
+        let entries = entries.insert(alloc, number, standing)?;
+        entries.rises();
+        Ok(Roots {
+            suffix,
+            root,
+            reach,
+            entries,
+            levels,
+            none,
         })
     }
 }

@@ -17,8 +17,9 @@ use dir_entry::{Name, NumberSet, Rdn, SharedMap};
 use std::alloc::{AllocError, Global};
 use std::marker::Model;
 
-/// The entries of a directory, by number and by name. It is a value: a change makes new maps, which
-/// share with the old ones all that stays, and a second owner of the whole costs a few second owners.
+/// The entries of a directory, by number and by name. It is a value, and a second owner of the whole costs a few second
+/// owners. `added`, `deleted`, `replaced` and `renamed` take it and may change in place what has no other owner. `add`,
+/// `delete`, `replace` and `rename` make new maps, which share with the old ones all that stays.
 pub struct Tree {
     alloc: Global,
     roots: Roots,
@@ -248,6 +249,86 @@ impl Tree {
         }
     }
 
+    /// The tree with an entry whose name is new, under a number above all. Of its name the last relative name is kept
+    /// as it is spelled; what stands before it is its superior's, as that is spelled. It costs two look-ups for each
+    /// relative name, and for each entry above it one number put into a set. What the tree alone owns is changed
+    /// where it stands; out of memory nothing is left.
+    pub fn added(self, number: u64, name: Name, entry: SharedEntry) -> Result<Tree, AllocError>
+        requires above { AllBelow number self.entries }
+        requires absent { is_some (find (rdns name) self.entries) ≡ false }
+        requires footing { has_footing (rdns self.suffix) (rdns name) self.entries ≡ true }
+        ensures { IfOk result (λ t. t ≡ record {
+          suffix = self.suffix;
+          entries = self.entries
+              ++ record {
+                number = number;
+                name = name_placed (rdns self.suffix) name self.entries;
+                entry =
+                    entry;
+              } ∷ [];
+        }) }
+    {
+        let Tree { alloc, roots } = self;
+        let roots = roots.added(alloc, number, name, entry)?;
+        Ok(Tree { alloc, roots })
+    }
+
+    /// The tree without the entry of a name that nothing stands below; out of memory nothing is left.
+    pub fn deleted(self, name: &[Rdn], number: u64) -> Result<Tree, AllocError>
+        requires here { option_map (λ e. e.number) (find (rdns name.now) self.entries) ≡ Some number }
+        requires leaf { has_below (rdns name.now) self.entries ≡ false }
+        ensures { IfOk result (λ t. t ≡ record {
+          suffix = self.suffix;
+          entries = unnumbered number
+              self.entries;
+        }) }
+    {
+        let Tree { alloc, roots } = self;
+        let roots = roots.deleted(alloc, name, number)?;
+        Ok(Tree { alloc, roots })
+    }
+
+    /// The tree with other attributes of the entry of a number; its name stays. What the tree alone owns of its entries
+    /// is changed where it stands; out of memory nothing is left.
+    pub fn replaced(self, number: u64, entry: SharedEntry) -> Result<Tree, AllocError>
+        ensures { IfOk result (λ t. t ≡ record {
+          suffix = self.suffix;
+          entries = replaced number entry
+              self.entries;
+        }) }
+    {
+        let Tree { alloc, roots } = self;
+        let roots = roots.replaced(alloc, number, entry)?;
+        Ok(Tree { alloc, roots })
+    }
+
+    /// The tree with another name and other attributes of an entry, as `rename` gives them. What the tree alone owns of
+    /// its entries is changed where it stands; out of memory nothing is left.
+    pub fn renamed(
+        self,
+        name: &[Rdn],
+        number: u64,
+        new_name: Name,
+        new_entry: SharedEntry,
+    ) -> Result<Tree, AllocError>
+        requires here { option_map (λ e. e.number) (find (rdns name.now) self.entries) ≡ Some number }
+        requires root { name_eq (rdns name.now) (rdns self.suffix) ≡ false }
+        requires parent { is_some (find (above (rdns new_name)) self.entries) ≡ true }
+        requires apart { begins (rdns name.now) (above (rdns new_name)) ≡ false }
+        requires free { is_some (find (rdns new_name) self.entries) ≡ true →
+            name_eq (rdns name.now) (rdns new_name) ≡ true }
+        ensures { IfOk result (λ t. t ≡ record {
+          suffix = self.suffix;
+          entries
+              = moved (rdns name.now) (name_placed (rdns self.suffix) new_name self.entries) new_entry
+              self.entries;
+        }) }
+    {
+        let Tree { alloc, roots } = self;
+        let roots = roots.renamed(alloc, name, number, new_name, new_entry)?;
+        Ok(Tree { alloc, roots })
+    }
+
     /// Adds an entry whose name is new, under a number above all. Of its name the last relative name
     /// is kept as it is spelled; what stands before it is its superior's, as that is spelled. An
     /// `Err` changes nothing. It costs two look-ups for each relative name, and for each entry
@@ -268,8 +349,9 @@ impl Tree {
         }) }
         ensures err { OnErr result (self.new ≡ self.old) }
     {
-        let roots = self.roots.added(self.alloc, number, name, entry)?;
-        self.roots = roots;
+        let same = self.share()?;
+        let more = same.added(number, name, entry)?;
+        *self = more;
         Ok(())
     }
 
@@ -298,8 +380,9 @@ impl Tree {
         }) }
         ensures err { OnErr result (self.new ≡ self.old) }
     {
-        let roots = self.roots.replaced(self.alloc, number, entry)?;
-        self.roots = roots;
+        let same = self.share()?;
+        let other = same.replaced(number, entry)?;
+        *self = other;
         Ok(())
     }
 
@@ -330,10 +413,9 @@ impl Tree {
         }) }
         ensures err { OnErr result (self.new ≡ self.old) }
     {
-        let roots = self
-            .roots
-            .renamed(self.alloc, name, number, new_name, new_entry)?;
-        self.roots = roots;
+        let same = self.share()?;
+        let other = same.renamed(name, number, new_name, new_entry)?;
+        *self = other;
         Ok(())
     }
 

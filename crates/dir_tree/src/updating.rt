@@ -17,21 +17,21 @@ use std::alloc::{AllocError, Global};
 impl Roots {
     /// The maps with a new entry, under a number above all.
     pub fn added(
-        &self,
+        self,
         alloc: Global,
         number: u64,
         name: Name,
         entry: SharedEntry,
     ) -> Result<Roots, AllocError>
-        requires tree { IsTree self.now }
-        requires above { AllBelow number (shown self.now) }
-        requires absent { is_some (find (rdns name) (shown self.now)) ≡ false }
-        requires footing { has_footing (rdns self.now.suffix) (rdns name) (shown self.now) ≡ true }
+        requires tree { IsTree self }
+        requires above { AllBelow number (shown self) }
+        requires absent { is_some (find (rdns name) (shown self)) ≡ false }
+        requires footing { has_footing (rdns self.suffix) (rdns name) (shown self) ≡ true }
         ensures tree { IfOk result (λ r. IsTree r) }
-        ensures suffix { IfOk result (λ r. r.suffix ≡ self.now.suffix) }
-        ensures shown { IfOk result (λ r. shown r ≡ shown self.now ++ record {
+        ensures suffix { IfOk result (λ r. r.suffix ≡ self.suffix) }
+        ensures shown { IfOk result (λ r. shown r ≡ shown self ++ record {
           number = number;
-          name = name_placed (rdns self.now.suffix) name (shown self.now);
+          name = name_placed (rdns self.suffix) name (shown self);
           entry = entry;
         } ∷ []) }
     {
@@ -57,29 +57,30 @@ impl Roots {
 
     /// The maps with another name and other attributes of an entry, and with all that stands below it below that name.
     pub fn renamed(
-        &self,
+        self,
         alloc: Global,
         name: &[Rdn],
         number: u64,
         new_name: Name,
         new_entry: SharedEntry,
     ) -> Result<Roots, AllocError>
-        requires tree { IsTree self.now }
-        requires here { option_map (λ e. e.number) (find (rdns name.now) (shown self.now)) ≡ Some number }
-        requires root { name_eq (rdns name.now) (rdns self.now.suffix) ≡ false }
-        requires parent { is_some (find (above (rdns new_name)) (shown self.now)) ≡ true }
+        requires tree { IsTree self }
+        requires here { option_map (λ e. e.number) (find (rdns name.now) (shown self)) ≡ Some number }
+        requires root { name_eq (rdns name.now) (rdns self.suffix) ≡ false }
+        requires parent { is_some (find (above (rdns new_name)) (shown self)) ≡ true }
         requires apart { begins (rdns name.now) (above (rdns new_name)) ≡ false }
-        requires free { is_some (find (rdns new_name) (shown self.now)) ≡ true
+        requires free { is_some (find (rdns new_name) (shown self)) ≡ true
             → name_eq (rdns name.now) (rdns new_name) ≡ true }
         ensures tree { IfOk result (λ r. IsTree r) }
-        ensures suffix { IfOk result (λ r. r.suffix ≡ self.now.suffix) }
+        ensures suffix { IfOk result (λ r. r.suffix ≡ self.suffix) }
         ensures shown { IfOk result (λ r. shown r ≡ moved (rdns name.now)
-            (name_placed (rdns self.now.suffix) new_name (shown self.now)) new_entry (shown self.now)) }
+            (name_placed (rdns self.suffix) new_name (shown self)) new_entry (shown self)) }
     {
         let above = self.number_over(new_name.rdns());
         let reach = self.reach.longer(1)?.longer(new_name.len() as u64)?;
         let place = place_in(alloc, above, new_name)?;
         let standing = Standing::new(number, place, new_entry);
-        self.placed(alloc, number, standing, self.root, reach)
+        let root = self.root;
+        self.placed(alloc, number, standing, root, reach)
     }
 }

@@ -2,12 +2,16 @@
 -- What a directory is then is in `Directory`.
 use Rattle.std.specs.Prelude.{◌≡◌, ℕ, ◌-◌, Bool, false, cond, ◌&&◌, ◌||◌, not, List, [], ◌∷◌, length, drop, Option, None, Some, nat_eq}
 use Rattle.std.specs.Option.{option_map_or}
+use Rattle.std.specs.Ordering.{nat_cmp}
+use Rattle.std.specs.BTreeMap.{insert_entry}
+use Rattle.std.specs.BTreeSet.{insert_key}
 use Rattle.dir_entry.specs.ldap_dn.Names.{TypeAndKey, RdnModel}
 use Rattle.dir_tree.specs.declared.place.Place.{Place}
 use Rattle.dir_tree.specs.declared.place.Place.TheVariants.{Root, Under}
 use Rattle.dir_tree.specs.declared.place.Below.{Below}
 use Rattle.dir_tree.specs.Superiors.{Places, has_number}
-use Rattle.dir_tree.specs.private.Superiors.{Steps, above_in, stands_under, stands_at, is_over}
+use Rattle.dir_tree.specs.Digests.{digested_order}
+use Rattle.dir_tree.specs.private.Superiors.{Steps, above_in, stands_under, stands_at, is_over, alone}
 
 -- places, with another one for a number
 abbrev pub put : Places → ℕ → Option Place → Places
@@ -37,6 +41,22 @@ child_after k old new x j was = (stands_under x new && nat_eq j k) || (not (stan
 -- those over its new one
 abbrev pub over_after : Bool → Bool → Bool → Bool → Bool
 over_after up up' moves was = (up' && not up && moves) || (not (up && not up' && moves) && was)
+
+-- what is kept below number a, as it is where nothing was kept
+abbrev pub kept_or : Option Below → ℕ → Below
+kept_or o a = option_map_or (λ (b : Below). b) o (alone a)
+
+-- the same with number k right under it by a relative name
+abbrev pub child_put : Below → RdnModel → ℕ → Below
+child_put b r k = record {
+  names = insert_entry digested_order b.names r k;
+  children = insert_key nat_cmp b.children k;
+  within = b.within;
+}
+
+-- the same with number k at or below it
+abbrev pub within_put : Below → ℕ → Below
+within_put b k = record { names = b.names; children = b.children; within = insert_key nat_cmp b.within k }
 
 -- what is kept below numbers, once k has gone from one place to another
 pub record IsAfter (k : ℕ) (old new : Option Place) (i : ℕ) (p : Places) (n n' : Steps) (b b' : ℕ → Below) :
