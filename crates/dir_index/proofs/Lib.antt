@@ -6,3 +6,4 @@ mod Lookups
 mod Marking
 mod Numbers
 mod Ranged
+mod Untouched

@@ -1,10 +1,10 @@
 -- What is kept as a whole, and which entries it is of.
-use Rattle.std.specs.Prelude.{◌≡◌, ℕ, ◌<◌, List, [], ◌∷◌, cond, map, filter, not, nat_eq, ◌⊎◌}
-use Rattle.std.specs.List.{AllByRecursion}
+use Rattle.std.specs.Prelude.{◌≡◌, ℕ, ◌<◌, List, [], ◌∷◌, Bool, false, cond, map, filter, not, nat_eq, ◌⊎◌}
+use Rattle.std.specs.List.{AllByRecursion, list_any}
 use Rattle.index_choice.specs.dir_entry.Entry.{KeyedAttribute}
 use Rattle.index_choice.specs.declared.kinds.Kinds.{Kinds}
 use Rattle.dir_index.specs.declared.posting.Posting.{Posting}
-use Rattle.dir_index.specs.Postings.{Indexed, IsRising, postings_of}
+use Rattle.dir_index.specs.Postings.{Indexed, IsRising, is_of, postings_of}
 use Rattle.dir_index.specs.ListKeys.{key_of}
 use Rattle.dir_index.specs.Stored.{ListRows, list_at}
 
@@ -38,3 +38,15 @@ without n es = filter (λ e. not (nat_eq e.number n)) es
 -- the entries with other attributes for a number
 abbrev pub with_attributes : ℕ → List KeyedAttribute → List Indexed → List Indexed
 with_attributes n a es = map (λ e. cond (nat_eq e.number n) (record { number = n; entry = a }) e) es
+
+-- the attributes of a type
+abbrev pub of_type : ℕ → List KeyedAttribute → List KeyedAttribute
+of_type t e = filter (is_of t) e
+
+-- whether a type is one of these
+abbrev pub is_one_of : List ℕ → ℕ → Bool
+is_one_of types t = list_any (nat_eq t) types
+
+-- two entries have the same attributes of each type but these
+abbrev pub AreSameBut : List ℕ → List KeyedAttribute → List KeyedAttribute → Type 0
+AreSameBut types before after = (t : ℕ) → is_one_of types t ≡ false → of_type t before ≡ of_type t after

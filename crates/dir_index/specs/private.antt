@@ -4,4 +4,5 @@ pub mod ListKeys
 pub mod Marked
 pub mod Postings
 pub mod Stored
+pub mod Touched
 pub mod Whole

@@ -4,11 +4,14 @@ ghost use Rattle.std.specs.Prelude.{◌≡◌, ◌||◌, ◌∷◌, List, true, 
 ghost use Rattle.std.specs.List.{list_any};
 ghost use Rattle.index_choice.specs.dir_entry.Entry.{KeyedAttribute};
 ghost use Rattle.dir_index.specs.declared.posting.Posting.{Posting};
+ghost use Rattle.dir_index.specs.Ordered.{type_of};
 ghost use Rattle.dir_index.specs.private.Marked.{has_posting, lists_entry, is_from_key, is_from_several, is_from_attribute};
+ghost use Rattle.dir_index.specs.private.Touched.{is_touched as is_touched_by, AreSameElsewhere};
 
 use crate::key_changes::changed_keys;
 use crate::list_key::SEVERAL;
 use crate::marks::{Marks, mark, mark_keys, mark_presence};
+use crate::touched::{Touched, is_touched};
 use index_choice::{Attribute, Indexes, Key, Kinds, TypeId};
 use std::alloc::{AllocError, Global};
 use std::collections::BTreeSet;
@@ -98,22 +101,25 @@ fn mark_whole(
     mark_keys(alloc, marks, kinds, type_id, attribute.keys())
 }
 
-/// Puts all postings that attributes may bring to the others.
+/// Puts all postings that attributes may bring to the others, those of types that aren't touched left out.
 #[tactic(auto, using(crate::proofs::Changed::entry_nothing))]
 fn mark_all(
     alloc: Global,
     marks: &mut Marks,
     indexes: &Indexes,
+    touched: &Touched<'_>,
     attributes: &[Attribute],
 ) -> Result<(), AllocError>
     ensures more { OnOk result ((p : Posting) → has_posting marks.new.keys p ≡ false → has_posting marks.old.keys p ≡
         false) }
-    ensures all { OnOk result ((p : Posting) → has_posting marks.new.keys p ≡ false →
-        lists_entry indexes.now attributes.now p ≡ false) }
+    ensures all { OnOk result ((p : Posting) → is_touched_by touched.now (type_of p) ≡ true → has_posting
+        marks.new.keys p ≡ false → lists_entry indexes.now attributes.now p ≡ false) }
 {
     let mut rest = attributes;
     while let Some((attribute, others)) = rest.split_first() {
-        mark_whole(alloc, marks, indexes, attribute)?;
+        if is_touched(touched, attribute) {
+            mark_whole(alloc, marks, indexes, attribute)?;
+        }
         rest = others;
     }
     Ok(())
@@ -121,13 +127,15 @@ fn mark_all(
 
 /// The postings that may list the entry of some attributes and not that of others: any other posting lists both or
 /// neither. Attributes in the same order are compared type by type, and where one has no fellow, the longer list is
-/// taken to have one more there.
+/// taken to have one more there. Those of types that aren't touched are passed over.
 pub fn marks_apart(
     alloc: Global,
     indexes: &Indexes,
+    touched: &Touched<'_>,
     before: &[Attribute],
     after: &[Attribute],
 ) -> Result<Marks, AllocError>
+    requires same { AreSameElsewhere touched.now before.now after.now }
     ensures { IfOk result (λ m. (p : Posting) → has_posting m.keys p ≡ false → lists_entry indexes.now before.now p ≡
         lists_entry indexes.now after.now p) }
 {
@@ -136,10 +144,14 @@ pub fn marks_apart(
     let mut later = after;
     while let Some((earlier_first, earlier_rest)) = earlier.split_first() {
         let Some((later_first, later_rest)) = later.split_first() else {
-            mark_all(alloc, &mut marks, indexes, earlier)?;
+            mark_all(alloc, &mut marks, indexes, touched, earlier)?;
             return Ok(marks);
         };
-        if earlier_first.type_id() == later_first.type_id() {
+        if !is_touched(touched, earlier_first) {
+            earlier = earlier_rest;
+        } else if !is_touched(touched, later_first) {
+            later = later_rest;
+        } else if earlier_first.type_id() == later_first.type_id() {
             mark_pair(alloc, &mut marks, indexes, earlier_first, later_first)?;
             earlier = earlier_rest;
             later = later_rest;
@@ -151,6 +163,6 @@ pub fn marks_apart(
             earlier = earlier_rest;
         }
     }
-    mark_all(alloc, &mut marks, indexes, later)?;
+    mark_all(alloc, &mut marks, indexes, touched, later)?;
     Ok(marks)
 }

@@ -1,4 +1,5 @@
-// The map of posting lists. A change takes the map: what other owners have too is copied, the rest changes in place.
+// The map of posting lists. A change takes the map: a number joins a list in place where no other owner has it, and is
+// else, or where it leaves one, copied into new nodes.
 
 ghost use Rattle.std.specs.Prelude.{◌≡◌, ◌||◌, ◌&&◌, ℕ, [], not, cond, nat_eq, IfOk};
 ghost use Rattle.std.specs.Option.{unwrap_or};

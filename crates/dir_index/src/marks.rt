@@ -1,13 +1,16 @@
 // The postings that list an entry. Made of an index choice and attributes, as a set of keys.
 
-ghost use Rattle.std.specs.Prelude.{◌≡◌, ◌||◌, ◌∷◌, [], IfOk, OnOk};
+ghost use Rattle.std.specs.Prelude.{◌≡◌, ◌||◌, ◌&&◌, ◌∷◌, [], IfOk, OnOk};
 ghost use Rattle.std.specs.List.{list_any};
 ghost use Rattle.dir_index.specs.declared.posting.Posting.{Posting};
 ghost use Rattle.dir_index.specs.Postings.{has_type as is_type_in};
 ghost use Rattle.dir_index.specs.ListKeys.{key_of, is_same_list};
+ghost use Rattle.dir_index.specs.Ordered.{type_of};
+ghost use Rattle.dir_index.specs.private.Touched.{is_touched as is_touched_by};
 ghost use Rattle.dir_index.specs.private.Marked.{has_posting, lists_entry, is_of_key, is_first_run, is_run_of, is_from_key, is_from_presence, makes_several, is_from_several, is_from_attribute};
 
 use crate::list_key::{ListKey, PRESENCE, RUN, SEVERAL, VALUE};
+use crate::touched::{Touched, is_touched};
 use index_choice::{Attribute, Indexes, Key, Kinds, Octets, TypeId};
 use std::alloc::{AllocError, Global};
 use std::collections::BTreeSet;
@@ -205,18 +208,22 @@ fn mark_attribute(
     mark_keys(alloc, marks, kinds, type_id, attribute.keys())
 }
 
-/// The postings that list the entry of these attributes.
+/// The postings of types that a change may touch that list the entry of these attributes.
 pub fn marks_of(
     alloc: Global,
     indexes: &Indexes,
+    touched: &Touched<'_>,
     attributes: &[Attribute],
 ) -> Result<Marks, AllocError>
-    ensures { IfOk result (λ m. (p : Posting) → has_posting m.keys p ≡ lists_entry indexes.now attributes.now p) }
+    ensures { IfOk result (λ m. (p : Posting) → has_posting m.keys p ≡ (is_touched_by touched.now (type_of p)
+        && lists_entry indexes.now attributes.now p)) }
 {
     let mut marks = BTreeSet::new(alloc);
     let mut rest = attributes;
     while let Some((attribute, others)) = rest.split_first() {
-        mark_attribute(alloc, &mut marks, indexes, attribute, others)?;
+        if is_touched(touched, attribute) {
+            mark_attribute(alloc, &mut marks, indexes, attribute, others)?;
+        }
         rest = others;
     }
     Ok(marks)

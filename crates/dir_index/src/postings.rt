@@ -6,7 +6,8 @@ ghost use Rattle.dir_index.specs.ListKeys.{key_of};
 ghost use Rattle.dir_index.specs.private.Marked.{lists_entry};
 ghost use Rattle.dir_index.specs.Postings.{Indexed, has_number, postings_of};
 ghost use Rattle.dir_index.specs.private.Stored.{is_in, AllRise};
-ghost use Rattle.dir_index.specs.Whole.{list_of, AreOf, AllBelow, HasEntry, without, with_attributes};
+ghost use Rattle.dir_index.specs.Whole.{list_of, AreOf, AreSameBut, AllBelow, HasEntry, without, with_attributes};
+ghost use Rattle.dir_index.specs.private.Touched.{AreSameElsewhere};
 ghost use Rattle.dir_index.specs.private.Whole.{moved};
 
 use crate::choice::Choice;
@@ -14,7 +15,8 @@ use crate::lists::{Lists, enlisted_in, struck_from};
 use crate::moves::{Moves, moves_between};
 use crate::posting::{Posting, Range};
 use crate::ranges::{about_lists, push_lists};
-use index_choice::{Attribute, Entry, Indexes, NumberSet, SharedMap};
+use crate::touched::Touched;
+use index_choice::{Attribute, Entry, Indexes, NumberSet, SharedMap, TypeId};
 use std::alloc::{AllocError, Global};
 use std::marker::Model;
 
@@ -59,15 +61,17 @@ fn changed(
     choice: &Choice,
     lists: Lists,
     number: u64,
+    touched: &Touched<'_>,
     before: &[Attribute],
     after: &[Attribute],
 ) -> Result<Lists, AllocError>
+    requires same { AreSameElsewhere touched.now before.now after.now }
     ensures has { IfOk result (λ m. AllRise lists → (p : Posting) (n : ℕ) → is_in m (key_of p) n
         ≡ cond (nat_eq n number) (moved (lists_entry choice.now before.now p) (lists_entry choice.now after.now p)
         (is_in lists (key_of p) n)) (is_in lists (key_of p) n)) }
     ensures rising { IfOk result (λ m. AllRise lists → AllRise m) }
 {
-    let Moves { was, is } = moves_between(alloc, choice.indexes(), before, after)?;
+    let Moves { was, is } = moves_between(alloc, choice.indexes(), touched, before, after)?;
     let more = enlisted_in(alloc, lists, &is, &was, number)?;
     let now = struck_from(alloc, more, &was, &is, number)?;
     Ok(now)
@@ -121,7 +125,15 @@ impl Postings {
             lists,
             none,
         } = self;
-        let lists = changed(alloc, &choice, lists, number, &[], entry.attributes())?;
+        let lists = changed(
+            alloc,
+            &choice,
+            lists,
+            number,
+            &Touched::All,
+            &[],
+            entry.attributes(),
+        )?;
         Ok(Postings {
             alloc,
             choice,
@@ -130,7 +142,7 @@ impl Postings {
         })
     }
 
-    /// The lists without an entry. What they alone own is changed where it stands; out of memory nothing is left.
+    /// The lists without an entry: those that it leaves are made anew as far as they differ. Out of memory nothing is left.
     pub fn removed(self, number: u64, entry: &Entry) -> Result<Postings, AllocError>
         ensures ok { IfOk result (λ p. (es : List Indexed) → AreOf self es → HasEntry es number entry.now →
             AreOf p (without number es)) }
@@ -142,7 +154,15 @@ impl Postings {
             lists,
             none,
         } = self;
-        let lists = changed(alloc, &choice, lists, number, entry.attributes(), &[])?;
+        let lists = changed(
+            alloc,
+            &choice,
+            lists,
+            number,
+            &Touched::All,
+            entry.attributes(),
+            &[],
+        )?;
         Ok(Postings {
             alloc,
             choice,
@@ -152,13 +172,45 @@ impl Postings {
     }
 
     /// The lists with an entry as it is after a change of its attributes: it leaves the lists that it is no longer in.
-    /// What they alone own is changed where it stands; out of memory nothing is left.
+    /// What it joins is changed in place where they alone own it; out of memory nothing is left.
     pub fn replaced(
         self,
         number: u64,
         before: &Entry,
         after: &Entry,
     ) -> Result<Postings, AllocError>
+        ensures ok { IfOk result (λ p. (es : List Indexed) → AreOf self es → HasEntry es number before.now →
+            AreOf p (with_attributes number after.now es)) }
+        ensures indexes { IfOk result (λ p. p.indexes ≡ self.indexes) }
+    {
+        self.changed_to(number, &Touched::All, before, after)
+    }
+
+    /// The same after a change of its attributes of some types: those of other types are the same, and aren't looked at.
+    pub fn replaced_in(
+        self,
+        number: u64,
+        types: &[TypeId],
+        before: &Entry,
+        after: &Entry,
+    ) -> Result<Postings, AllocError>
+        requires same { AreSameBut types.now before.now after.now }
+        ensures ok { IfOk result (λ p. (es : List Indexed) → AreOf self es → HasEntry es number before.now →
+            AreOf p (with_attributes number after.now es)) }
+        ensures indexes { IfOk result (λ p. p.indexes ≡ self.indexes) }
+    {
+        self.changed_to(number, &Touched::These(types), before, after)
+    }
+
+    /// The lists with an entry as it is after a change that touches its attributes of these types alone.
+    fn changed_to(
+        self,
+        number: u64,
+        touched: &Touched<'_>,
+        before: &Entry,
+        after: &Entry,
+    ) -> Result<Postings, AllocError>
+        requires same { AreSameElsewhere touched.now before.now after.now }
         ensures ok { IfOk result (λ p. (es : List Indexed) → AreOf self es → HasEntry es number before.now →
             AreOf p (with_attributes number after.now es)) }
         ensures indexes { IfOk result (λ p. p.indexes ≡ self.indexes) }
@@ -174,6 +226,7 @@ impl Postings {
             &choice,
             lists,
             number,
+            touched,
             before.attributes(),
             after.attributes(),
         )?;

@@ -2,6 +2,8 @@
 ghost use Rattle.std.specs.Prelude.{◌≡◌, Ok, IfOk, IfErr, map};
 ghost use Rattle.entry_updates.specs.ldap_parts.UpdateView.{change_view, modify_view};
 ghost use Rattle.indexed_tree.specs.dir_entry.Entry.{IsKeyedBy};
+ghost use Rattle.indexed_tree.specs.dir_index.Whole.{AreSameBut};
+ghost use Rattle.indexed_tree.specs.Listed.{IsSameBut};
 ghost use Rattle.indexed_tree.specs.Stored.{entered_of, named, directory, AreKeyedBy};
 ghost use Rattle.dir_store.specs.Updates.{change_of, change_asked};
 ghost use Rattle.dir_store.specs.private.View.{kept_view, RefusedWith};
@@ -9,14 +11,15 @@ ghost use Rattle.dir_store.specs.private.View.{kept_view, RefusedWith};
 use crate::fault::{StoreError, refused_attributes};
 use crate::finding::asked_entry;
 use crate::names::{asked_name, own_rdn};
-use entry_updates::{Change, ModifyRequest, entry_changed};
-use indexed_tree::{Entry, Schema, StoredEntry, Tree};
+use entry_updates::{Change, ModifyRequest, entry_changed, touched_types};
+use indexed_tree::{Entry, Schema, StoredEntry, Tree, TypeId};
 use std::alloc::Global;
 
-/// A number, and what its entry is changed to.
+/// A number, and what its entry is changed to; what the entry has of other types than these is the same.
 #[derive(Drop)]
 pub struct ChangedEntry {
     pub number: u64,
+    pub types: Vec<TypeId>,
     pub entry: Entry,
 }
 
@@ -31,18 +34,22 @@ fn change(
     requires keyed { IsKeyedBy schema.now held.now.entry.now }
     ensures ok { IfOk result (λ k. change_of schema.now (map change_view changes.now)
         (named (entered_of number held.now)) ≡ Ok (kept_view k)) }
+    ensures number { IfOk result (λ k. k.number ≡ number) }
     ensures keyed { IfOk result (λ k. IsKeyedBy schema.now k.entry) }
+    ensures same { IfOk result (λ k. AreSameBut k.types.items held.now.entry.now k.entry) }
     ensures refused { IfErr result (λ e. RefusedWith e (change_of schema.now (map change_view changes.now)
         (named (entered_of number held.now)))) }
 {
-    match entry_changed(
-        alloc,
-        schema,
-        own_rdn(held.name.rdns()),
-        changes,
-        held.entry,
-    ) {
-        Ok(entry) => Ok(ChangedEntry { number, entry }),
+    let before: &Entry = held.entry;
+    match entry_changed(alloc, schema, own_rdn(held.name.rdns()), changes, before) {
+        Ok(entry) => {
+            let types = touched_types(alloc, schema, changes, before)?;
+            Ok(ChangedEntry {
+                number,
+                types,
+                entry,
+            })
+        }
         Err(error) => Err(refused_attributes(alloc, error)),
     }
 }
@@ -58,10 +65,13 @@ pub fn asked_change(
     ensures ok { IfOk result (λ k. change_asked (directory schema.now tree.now) (modify_view request.now) ≡
         Ok (kept_view k)) }
     ensures keyed { IfOk result (λ k. IsKeyedBy schema.now k.entry) }
+    ensures same { IfOk result (λ k. IsSameBut k.types.items k.number tree.now.entries k.entry) }
     ensures refused { IfErr result (λ e. RefusedWith e (change_asked (directory schema.now tree.now)
         (modify_view request.now))) }
 {
+    tree.is_directory();
     let name = asked_name(alloc, schema, &request.object)?;
     let (number, held) = asked_entry(alloc, schema, tree, name.rdns())?;
-    change(alloc, schema, request.changes.as_slice(), number, &held)
+    let changed = change(alloc, schema, request.changes.as_slice(), number, &held)?;
+    Ok(changed)
 }

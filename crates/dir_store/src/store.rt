@@ -210,10 +210,14 @@ impl Store {
     {
         match asked_change(alloc, &self.schema, self.held.tree(), request) {
             Ok(changed) => {
-                let ChangedEntry { number, entry } = changed;
+                let ChangedEntry {
+                    number,
+                    types,
+                    entry,
+                } = changed;
                 let entry = SharedEntry::new(alloc, entry)?;
                 let Store { schema, held } = self;
-                let held = held.replaced(number, entry)?;
+                let held = held.replaced_in(number, types.as_slice(), entry)?;
                 Ok(Outcome::Made(Store { schema, held }))
             }
             Err(error) => self.refused(error),

@@ -1,11 +1,11 @@
 -- Tests on attributes with their keys, as tests without them.
-use Rattle.std.proofs.Common.{ℕ, List, [], ◌∷◌, Bool, ◌&&◌, nat_eq, Option, Some, is_some, ◌≡◌, refl, ap, map}
+use Rattle.std.proofs.Common.{ℕ, List, [], ◌∷◌, Bool, ◌&&◌, nat_eq, Option, Some, ◌≡◌, refl, ap, map}
 use Rattle.std.specs.List.{list_all, list_any}
-use Rattle.dir_entry.specs.ldap_schema.Schema.{SchemaModel, class_named}
+use Rattle.dir_entry.specs.ldap_schema.Schema.{SchemaModel}
 use Rattle.dir_entry.specs.ldap_schema.ObjectClassType.{object_class_type}
 use Rattle.dir_entry.specs.Entry.{AttributeModel, KeyedAttribute, shown, attributes_of}
 use Rattle.dir_entry.specs.Adding.{has_type}
-use Rattle.entry_updates.specs.Classes.{has_single_value, has_single_values, is_allowed, is_object_class, are_classes}
+use Rattle.entry_updates.specs.Classes.{has_single_value, has_single_values, is_allowed, is_object_class}
 use Rattle.std.specs.Option.{option_eq}
 
 pub all_of_map : {A B : Type 0} (p : B → Bool) (f : A → B) (xs : List A) → list_all p (map f xs) ≡

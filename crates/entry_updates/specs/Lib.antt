@@ -1,6 +1,7 @@
 pub mod Adding
 pub mod Finishing
 pub mod Modifying
+pub mod Touched
 pub mod Refused
 pub mod Classes
 pub mod Structural

@@ -6,11 +6,11 @@ ghost use Rattle.directory_api.specs.dir_tree.Directory.{AllBelow, name_eq, begi
 ghost use Rattle.directory_api.specs.dir_tree.Placed.{name_placed};
 ghost use Rattle.dir_index.specs.Postings.{postings_of};
 ghost use Rattle.dir_index.specs.Whole.{AreOf};
-ghost use Rattle.indexed_tree.specs.Listed.{listed_of};
+ghost use Rattle.indexed_tree.specs.Listed.{listed_of, IsSameBut};
 
-use crate::listing::{listed_more, relisted, unlisted};
+use crate::listing::{listed_more, relisted, relisted_in, unlisted};
 use dir_index::{
-    Indexes, Name, NumberSet, Posting, PostingLists, Postings, Range, Rdn, has_in_range,
+    Indexes, Name, NumberSet, Posting, PostingLists, Postings, Range, Rdn, TypeId, has_in_range,
 };
 use directory_api::{SharedEntry, Tree};
 use std::alloc::{AllocError, Global};
@@ -78,7 +78,7 @@ impl IndexedTree {
         self.postings.indexes()
     }
 
-    /// The tree with an entry at the end, its name spelled as its superior's is. What the tree alone owns of its lists is
+    /// The tree with an entry at the end, its name spelled as its superior's is. What the tree alone owns is
     /// changed where it stands; out of memory nothing is left.
     pub fn added(
         self,
@@ -103,13 +103,13 @@ impl IndexedTree {
               };
         }) }
     {
-        let IndexedTree { mut tree, postings } = self;
+        let IndexedTree { tree, postings } = self;
         let postings = listed_more(&tree, postings, number, &entry)?;
-        tree.add(number, name, entry)?;
+        let tree = tree.added(number, name, entry)?;
         Ok(IndexedTree { tree, postings })
     }
 
-    /// The tree without the entry of a name that nothing stands below. What the tree alone owns of its lists is changed
+    /// The tree without the entry of a name that nothing stands below. What the tree alone owns is changed
     /// where it stands; out of memory nothing is left.
     pub fn deleted(self, name: &[Rdn], number: u64) -> Result<IndexedTree, AllocError>
         requires here { option_map (λ e. e.number) (find (rdns name.now) self.tree.entries) ≡ Some number }
@@ -120,13 +120,13 @@ impl IndexedTree {
               record { suffix = self.tree.suffix; entries = unnumbered number self.tree.entries };
         }) }
     {
-        let IndexedTree { mut tree, postings } = self;
+        let IndexedTree { tree, postings } = self;
         let postings = unlisted(&tree, postings, number)?;
-        tree.delete(name, number)?;
+        let tree = tree.deleted(name, number)?;
         Ok(IndexedTree { tree, postings })
     }
 
-    /// The tree with other attributes of the entry of a number. What the tree alone owns of its lists is changed where it
+    /// The tree with other attributes of the entry of a number. What the tree alone owns is changed where it
     /// stands; out of memory nothing is left.
     pub fn replaced(self, number: u64, entry: SharedEntry) -> Result<IndexedTree, AllocError>
         ensures { IfOk result (λ t. t ≡ record {
@@ -135,14 +135,34 @@ impl IndexedTree {
               record { suffix = self.tree.suffix; entries = replaced number entry self.tree.entries };
         }) }
     {
-        let IndexedTree { mut tree, postings } = self;
+        let IndexedTree { tree, postings } = self;
         let postings = relisted(&tree, postings, number, &entry)?;
-        tree.replace(number, entry)?;
+        let tree = tree.replaced(number, entry)?;
+        Ok(IndexedTree { tree, postings })
+    }
+
+    /// The same where the entry has other attributes of some types alone: the lists of other types aren't looked at.
+    pub fn replaced_in(
+        self,
+        number: u64,
+        types: &[TypeId],
+        entry: SharedEntry,
+    ) -> Result<IndexedTree, AllocError>
+        requires same { IsSameBut types.now number self.tree.entries entry }
+        ensures { IfOk result (λ t. t ≡ record {
+          indexes = self.indexes;
+          tree =
+              record { suffix = self.tree.suffix; entries = replaced number entry self.tree.entries };
+        }) }
+    {
+        let IndexedTree { tree, postings } = self;
+        let postings = relisted_in(&tree, postings, number, types, &entry)?;
+        let tree = tree.replaced(number, entry)?;
         Ok(IndexedTree { tree, postings })
     }
 
     /// The tree with another name and other attributes of an entry: each name that begins with the old one begins with
-    /// the new one in its place, which is spelled as its superior's is. What the tree alone owns of its lists is changed
+    /// the new one in its place, which is spelled as its superior's is. What the tree alone owns is changed
     /// where it stands; out of memory nothing is left.
     pub fn renamed(
         self,
@@ -168,10 +188,10 @@ impl IndexedTree {
               };
         }) }
     {
-        let IndexedTree { mut tree, postings } = self;
+        let IndexedTree { tree, postings } = self;
         tree.is_directory();
         let postings = relisted(&tree, postings, number, &new_entry)?;
-        tree.rename(name, number, new_name, new_entry)?;
+        let tree = tree.renamed(name, number, new_name, new_entry)?;
         Ok(IndexedTree { tree, postings })
     }
 

@@ -3,10 +3,11 @@
 //!
 //! The tree and the posting lists of its entries, which change together (`indexed`, by the steps of `listing`). That
 //! the lists are those of the entries is the type's invariant. `added`, `deleted`, `replaced` and `renamed` take the
-//! tree and change in place what it alone owns of its lists. `add`, `delete`, `replace` and `rename` change a second
-//! owner so, and assign it last. Plans ask this type: lists come from the index, whether an entry is in a range from
-//! the entry's own keys. `finding` has a name's entry, without memory, or the reply where there is none; `held` is an
-//! entry with its name. `reading` is what searches are lent: a schema, and a tree whose keys are those of the schema.
+//! tree and may change in place what it alone owns; `replaced_in` leaves lists of other types than it is told unread.
+//! `add`, `delete`, `replace` and `rename` change a second owner so, and assign it last. Plans ask this type: lists come
+//! from the index, whether an entry is in a range from the entry's own keys. `finding` has a name's entry, without
+//! memory, or the reply where there is none; `held` is an entry with its name. `reading` is what searches are lent: a
+//! schema, and a tree whose keys are those of the schema.
 //!
 //! Proved: an add, a delete, a change of attributes and a rename change tree and lists, or, without memory, neither;
 //! of a tree that was taken nothing is left then (`IndexedTree`). A name's entry is found; where there is none, the

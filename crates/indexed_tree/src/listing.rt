@@ -2,9 +2,9 @@
 ghost use Rattle.std.specs.Prelude.{◌≡◌, ◌++◌, ◌∷◌, [], IfOk};
 ghost use Rattle.directory_api.specs.dir_tree.Directory.{AllBelow, unnumbered, replaced};
 ghost use Rattle.dir_index.specs.Whole.{AreOf};
-ghost use Rattle.indexed_tree.specs.Listed.{listed_of};
+ghost use Rattle.indexed_tree.specs.Listed.{listed_of, IsSameBut};
 
-use dir_index::{Entry, Postings};
+use dir_index::{Entry, Postings, TypeId};
 use directory_api::Tree;
 use std::alloc::AllocError;
 
@@ -59,6 +59,29 @@ pub fn relisted(
     match tree.entry(number) {
         Some(held) => {
             let lists = postings.replaced(number, held, entry)?;
+            Ok(lists)
+        }
+        None => Ok(postings),
+    }
+}
+
+/// The same where the entry has other attributes of some types alone.
+pub fn relisted_in(
+    tree: &Tree,
+    postings: Postings,
+    number: u64,
+    types: &[TypeId],
+    entry: &Entry,
+) -> Result<Postings, AllocError>
+    requires of { AreOf postings (listed_of tree.now.entries) }
+    requires same { IsSameBut types.now number tree.now.entries entry.now }
+    ensures lists { IfOk result (λ p. AreOf p (listed_of (replaced number entry.now tree.now.entries))) }
+    ensures indexes { IfOk result (λ p. p.indexes ≡ postings.indexes) }
+{
+    tree.is_directory();
+    match tree.entry(number) {
+        Some(held) => {
+            let lists = postings.replaced_in(number, types, held, entry)?;
             Ok(lists)
         }
         None => Ok(postings),

@@ -1,4 +1,4 @@
-use Rattle.std.proofs.Common.{◌≡◌, ◌+◌, ◌-◌, ◌≤◌, ◌∙◌, arith}
+use Rattle.std.proofs.Common.{◌+◌, ◌-◌, ◌∙◌, arith}
 use Rattle.state_machine.proofs.Dues.{grows, stops_within, where_err}
 use Rattle.state_machine.proofs.executed.execute.Goals as goal
 

@@ -15,8 +15,8 @@ invariant_of-result c =
     let d = c.self.inside.tree.entries in
     let k = c.args.number in
     let a = c.args.new_entry in
-    of_same p p (listed_of c.rename.new.self.entries) (listed_of (replaced k a d)) refl
-    (ap (λ (t : TreeModel). listed_of t.entries) c.in_ok-rename.ensures.ok ∙ moved_replaced (rdns c.args.name.now)
+    of_same p p (listed_of c.in_ok-tree.tree.entries) (listed_of (replaced k a d)) refl
+    (ap (λ (t : TreeModel). listed_of t.entries) c.in_ok-tree.ensures ∙ moved_replaced (rdns c.args.name.now)
     (name_placed (rdns c.self.inside.tree.suffix) c.args.new_name d) a k d c.is_directory.ensures.rise
     c.is_directory.ensures.differ (rw (← c.self.view_is) at c.requires.here))
     (subst (λ (x : List KeyedAttribute). AreOf p (listed_of (replaced k x d))) c.deref.ensures

@@ -1,4 +1,4 @@
-use Rattle.std.proofs.Common.{◌≡◌, List, ◌++◌, ap, ◌∙◌, subst, arith}
+use Rattle.std.proofs.Common.{List, ◌++◌, ap, ◌∙◌, subst, arith}
 use Rattle.dir_store.specs.directory_api.log_entry.declared.words.LogEntry.{LogEntry}
 use Rattle.dir_store.specs.ldap_op.Values.{OpValue}
 use Rattle.dir_store.specs.indexed_tree.Listed.{StoreModel}

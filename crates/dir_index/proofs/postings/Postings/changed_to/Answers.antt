@@ -1,9 +1,9 @@
--- What search doesn't prove of `replaced`: the clause `ok`, by lemmas of `Listed`.
+-- What search doesn't prove of `changed_to`: the clause `ok`, by lemmas of `Listed`.
 use Rattle.std.proofs.Common.{List, sym, subst}
 use Rattle.index_choice.specs.dir_entry.Entry.{KeyedAttribute}
 use Rattle.dir_index.specs.Whole.{PostingsModel, AreOf, HasEntry, with_attributes}
 use Rattle.dir_index.proofs.Listed.{all_rise, replaced_lists}
-use Rattle.dir_index.proofs.postings.Postings.replaced.Goals as goal
+use Rattle.dir_index.proofs.postings.Postings.changed_to.Goals as goal
 
 pub returns-clause-ok : goal.returns-clause-ok
 returns-clause-ok c = λ es held there.
