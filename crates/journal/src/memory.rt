@@ -17,7 +17,6 @@ pub struct MemoryDevice {
     bytes: Vec<u8>,
     calls: Vec<Call>,
     room: usize,
-    limit: usize,
     fault: Fault,
     failures: u64,
 }
@@ -63,7 +62,6 @@ impl MemoryDevice {
             bytes,
             calls,
             room,
-            limit: usize::MAX,
             fault,
             failures: 0,
         })
@@ -154,9 +152,9 @@ impl MemoryDevice {
         Ok(())
     }
 
-    /// Whether it may have so many octets more.
+    /// Whether a size can say so many octets more.
     pub(crate) fn may_grow(&self, octets: u64) -> bool {
-        self.bytes.len() <= self.limit && octets <= (self.limit - self.bytes.len()) as u64
+        octets <= (usize::MAX - self.bytes.len()) as u64
     }
 
     /// How often it has failed.
@@ -187,13 +185,6 @@ impl MemoryDevice {
         ensures { result ≡ length self.now.events }
     {
         self.calls.len()
-    }
-
-    /// Sets how many octets it may have at most. It has no limit at first.
-    pub fn set_limit(&mut self, octets: usize)
-        ensures { self.new ≡ self.old }
-    {
-        self.limit = octets;
     }
 
     /// Sets what is to go wrong from here on.

@@ -6,7 +6,7 @@ ghost use Rattle.lab_script.specs.private.LineKinds.{kind_view};
 ghost use Rattle.lab_script.specs.Words as words;
 
 use crate::cuts::cut_text;
-use crate::token::is_text;
+use crate::kinds::is_word;
 use filter_text::number_of_digits;
 
 /// What a line is by its first word, and what stands behind that and one space.
@@ -46,9 +46,9 @@ pub struct SearchParts<'a> {
 fn kind_by<'a>(word: &[u8], rest: &'a [u8]) -> LineKind<'a>
     ensures { kind_view result ≡ lines.kind_cut (Some (record { front = word.now; behind = rest.now })) }
 {
-    if is_text(word, b"request") {
+    if is_word(word, b"request") {
         LineKind::Request(rest)
-    } else if is_text(word, b"search") {
+    } else if is_word(word, b"search") {
         LineKind::Search(rest)
     } else {
         LineKind::Plain

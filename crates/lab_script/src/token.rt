@@ -1,8 +1,9 @@
 // The words of lab scripts. What a line of them means isn't here.
 
-ghost use Rattle.std.specs.Prelude.{◌≡◌, ◌==◌, bytes_eq, map, IfOk};
+ghost use Rattle.std.specs.Prelude.{◌≡◌, map, IfOk};
 ghost use Rattle.lab_script.specs.Words.{token_of, words_of};
 
+use crate::kinds::is_word;
 use filter_text::number_of_digits;
 use std::alloc::{AllocError, Global};
 
@@ -31,21 +32,21 @@ pub fn words_of<'a>(alloc: Global, line: &'a [u8]) -> Result<Vec<&'a [u8]>, Allo
 pub fn token_of(word: &[u8]) -> Option<Token>
     ensures { result ≡ token_of word.now }
 {
-    if is_text(word, b"replicas") {
+    if is_word(word, b"replicas") {
         Some(Token::Replicas)
-    } else if is_text(word, b"deliver") {
+    } else if is_word(word, b"deliver") {
         Some(Token::Deliver)
-    } else if is_text(word, b"suspect") {
+    } else if is_word(word, b"suspect") {
         Some(Token::Suspect)
-    } else if is_text(word, b"beat") {
+    } else if is_word(word, b"beat") {
         Some(Token::Beat)
-    } else if is_text(word, b"crash") {
+    } else if is_word(word, b"crash") {
         Some(Token::Crash)
-    } else if is_text(word, b"recover") {
+    } else if is_word(word, b"recover") {
         Some(Token::Recover)
-    } else if is_text(word, b"resume") {
+    } else if is_word(word, b"resume") {
         Some(Token::Resume)
-    } else if is_text(word, b"state") {
+    } else if is_word(word, b"state") {
         Some(Token::State)
     } else {
         match number_of_digits(word) {
@@ -53,11 +54,4 @@ pub fn token_of(word: &[u8]) -> Option<Token>
             None => None,
         }
     }
-}
-
-/// Whether a word is this text.
-pub fn is_text(word: &[u8], text: &[u8]) -> bool
-    ensures { result ≡ bytes_eq word.now text.now }
-{
-    word == text
 }
