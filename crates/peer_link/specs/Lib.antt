@@ -7,5 +7,6 @@ pub mod Past
 pub mod Refusals
 pub mod Saying
 pub mod Terms
-pub mod Turns
 pub mod private
+-- what layers above name of the crates below
+pub use Rattle.vr_wire.specs as vr_wire

@@ -1,6 +1,6 @@
 //! Says which thread sends what waits for another replica: the one whose work it is, or one that has put an item.
 ghost use Rattle.std.specs.Prelude.{◌≡◌, ◌↔◌, ◌<◌, IsTrue, IsFalse};
-ghost use Rattle.peer_link.specs.Turns.{IsLookedAt, MaySend};
+ghost use Rattle.peer_link.specs.private.Turns.{IsLookedAt, MaySend};
 ghost use Rattle.peer_link.specs.declared.turns.Step.TheVariants as step;
 ghost use Rattle.peer_link.specs.declared.turns.Turn.TheVariants as turn;
 
