@@ -1,5 +1,5 @@
 -- Equal keys and equivalent values.
-use Rattle.std.proofs.Common.{ℕ, List, [], ◌∷◌, Bool, true, false, ◌||◌, Option, None, Some, ◌≡◌, refl, ap, ap₂, sym, subst, ◌∙◌, map}
+use Rattle.std.proofs.Common.{ℕ, List, [], ◌∷◌, Bool, true, false, ◌||◌, Option, None, Some, ◌≡◌, refl, ap, ap₂, sym, subst, ◌∙◌, map, is_some}
 use Rattle.std.specs.List.{list_any}
 use Rattle.std.specs.Str.{bytes_eq}
 use Rattle.std.proofs.lemmas.Slice.Eq.{bytes_eq-Decides}
@@ -14,6 +14,8 @@ use Rattle.ldap_match.specs.Keyed.{key_at, test_by, test_for, test_value, AreKey
 use Rattle.ldap_match.specs.private.Keyed.{equality_test}
 use Rattle.ldap_match.specs.Truth.{truth_of}
 use Rattle.ldap_match.specs.declared.truth.Truth.TheVariants.{Undefined}
+use Rattle.dir_entry.specs.Entry.{KeyedAttribute}
+use Rattle.dir_entry.specs.Compared.{octets_by}
 use Rattle.dir_entry.specs.Values.{is_same_meaning, is_equivalent_by, is_equivalent, has_twice, has_repeats}
 
 -- what a test on keys says is what the item says
@@ -37,7 +39,8 @@ both_ways true false f g = sym (f refl)
 both_ways false true f g = g refl
 both_ways false false f g = refl
 
-turned : (k l : List ℕ) → bytes_eq k l ≡ bytes_eq l k
+-- octets are compared either way round
+pub turned : (k l : List ℕ) → bytes_eq k l ≡ bytes_eq l k
 turned k l = both_ways (bytes_eq k l) (bytes_eq l k) (λ h. (bytes_eq-Decides l k).1
     (sym ((bytes_eq-Decides k l).0 h))) (λ h. (bytes_eq-Decides k l).1 (sym ((bytes_eq-Decides l k).0 h)))
 
@@ -96,3 +99,15 @@ by_keys law s t r vs ks e h = twice_alike law s t r vs ks e (subst (λ (o : Opti
 pub by_octets : (s : SchemaModel) (t : ℕ) (vs : List (List ℕ)) → equality_of s t ≡ None → has_twice bytes_eq vs ≡
     has_repeats s t vs
 by_octets s t vs e = ap (λ (o : Option Rule). has_twice (is_equivalent_by s o) vs) (sym e)
+
+-- equal octets that values are compared by are repeats
+pub repeats_by : TestsAreItems → (s : SchemaModel) (a : KeyedAttribute) (by : Bool) → by ≡
+    is_some (equality_of s a.kind) → AreKeysOf s a.kind a.values a.keys → has_twice bytes_eq (octets_by by a) ≡
+    has_repeats s a.kind a.values
+repeats_by law s a by e h = ap (λ (b : Bool). has_twice bytes_eq (octets_by b a)) e
+    ∙ under (equality_of s a.kind) refl
+  where
+    under : (o : Option Rule) → equality_of s a.kind ≡ o → has_twice bytes_eq (octets_by (is_some o) a) ≡
+        has_repeats s a.kind a.values
+    under None f = by_octets s a.kind a.values f
+    under (Some r) f = by_keys law s a.kind r a.values a.keys f h

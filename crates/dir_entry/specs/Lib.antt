@@ -4,6 +4,8 @@ pub mod private
 pub mod Values
 pub mod Adding
 pub mod Picked
+pub mod Parts
+pub mod Compared
 -- what layers above name of the crates below
 pub use Rattle.ldap_match.specs.ldap_words as ldap_words
 pub use Rattle.ldap_match.specs.ldap_syntax as ldap_syntax

@@ -1,18 +1,23 @@
 // An attribute: a type, its values and their keys.
 
-ghost use Rattle.std.specs.Prelude.{◌≡◌, ◌++◌, map, true, false, Some, is_some, IfOk, OnOk, IsErrOf};
-ghost use Rattle.std.specs.List.{list_all};
+ghost use Rattle.std.specs.Prelude.{◌≡◌, ◌==◌, ◌++◌, map, length, not, true, false, Some, is_some, IfOk, OnOk, IsErrOf};
+ghost use Rattle.std.specs.List.{list_all, list_any};
 ghost use Rattle.ldap_match.specs.Meaning.{meaning};
 ghost use Rattle.ldap_match.specs.Item.{is_of_syntax as is_of_type_syntax};
 ghost use Rattle.ldap_match.specs.Keyed.{key_at, AreKeysOf};
+ghost use Rattle.ldap_match.specs.ldap_schema.Rules.{equality_of};
 ghost use Rattle.ldap_match.specs.ldap_syntax.Forms.{form_of};
 ghost use Rattle.std.specs.Str.{bytes_eq};
 ghost use Rattle.dir_entry.specs.Picked.{picked};
 ghost use Rattle.dir_entry.specs.Entry.{are_in_syntax};
-ghost use Rattle.dir_entry.specs.Values.{has_repeats, has_twice as has_some_twice};
+ghost use Rattle.dir_entry.specs.Compared.{octets_by};
+ghost use Rattle.dir_entry.specs.Values.{has_repeats};
 
-use crate::kept::{Lists, StoredValues};
+use crate::kept::StoredValues;
+use crate::lists::Lists;
+use crate::parts::Parts;
 use crate::repeats::has_twice;
+use crate::without::sought;
 use ldap_match::{
     Form, Key, Rule, Schema, TypeId, ValueError, equality_rule, is_of_syntax, key, tests_are_items,
 };
@@ -46,6 +51,7 @@ impl Model for Attribute {
     ghost view = { λ a. record { kind = a.type_id; values = values_in a.held; keys = keys_in a.held } };
 
     ghost use Rattle.std.specs.Prelude.{◌≡◌, map};
+    ghost use Rattle.ldap_match.specs.ldap_schema.Rules.{equality_of};
     ghost use Rattle.ldap_match.specs.ldap_syntax.Forms.{form_of};
     ghost use Rattle.dir_entry.specs.private.Kept.{forms_in};
 
@@ -98,10 +104,9 @@ impl Attribute {
     {
         let Attribute { type_id, held } = self;
         let more = lists_of(alloc, schema, type_id, more)?;
-        let lists = held.into_lists(alloc)?.joined(more)?;
         Ok(Attribute {
             type_id,
-            held: lists.held(alloc)?,
+            held: held.joined_lists(alloc, more)?,
         })
     }
 
@@ -116,11 +121,9 @@ impl Attribute {
             type_id: _,
             held: more,
         } = other;
-        let more = more.into_lists(alloc)?;
-        let lists = held.into_lists(alloc)?.joined(more)?;
         Ok(Attribute {
             type_id,
-            held: lists.held(alloc)?,
+            held: held.joined(alloc, more)?,
         })
     }
 
@@ -135,6 +138,30 @@ impl Attribute {
         Ok(Attribute {
             type_id,
             held: lists.held(alloc)?,
+        })
+    }
+
+    /// The attribute without the values that are compared by some of these octets: by those of their keys, or by their
+    /// own.
+    pub fn without(
+        self,
+        alloc: Global,
+        by_keys: bool,
+        given: &[&[u8]],
+    ) -> Result<Attribute, AllocError>
+        ensures kind { IfOk result (λ a. a.kind ≡ self.kind) }
+        ensures values { IfOk result (λ a. a.values ≡
+            picked (map (λ x. not (list_any (bytes_eq x) (map (λ octets. octets.now) given.now)))
+            (octets_by by_keys self)) self.values) }
+        ensures keys { IfOk result (λ a. a.keys ≡
+            picked (map (λ x. not (list_any (bytes_eq x) (map (λ octets. octets.now) given.now)))
+            (octets_by by_keys self)) self.keys) }
+    {
+        let Attribute { type_id, held } = self;
+        let given = sought(alloc, given)?;
+        Ok(Attribute {
+            type_id,
+            held: held.without(alloc, by_keys, &given)?,
         })
     }
 
@@ -155,10 +182,9 @@ impl Attribute {
             → IfOk result (λ b. b ≡ has_repeats schema.now self.now.kind self.now.values) }
     {
         tests_are_items();
-        match equality_rule(schema, self.type_id) {
-            Some(_) => has_repeated_key(alloc, self.keys()),
-            None => has_repeated_value(alloc, self.values()),
-        }
+        let by_keys = is_by_keys(schema, self.type_id());
+        let octets = self.octets(alloc, by_keys)?;
+        has_twice(alloc, octets.as_slice())
     }
 
     /// The type.
@@ -168,26 +194,53 @@ impl Attribute {
         self.type_id
     }
 
-    /// The values in order.
-    pub fn values(&self) -> &[Octets]
-        ensures { result.now ≡ self.now.values }
+    /// The values in order, with their keys and texts, in parts.
+    pub fn parts(&self) -> Parts<'_>
+        ensures values { result.values ≡ self.now.values }
+        ensures keys { result.keys ≡ self.now.keys }
+        ensures forms { result.forms ≡ map form_of self.now.values }
     {
-        self.held.values()
+        self.held.parts()
     }
 
-    /// The keys of the values, for the evaluation of filters.
-    pub fn keys(&self) -> &[Key]
-        ensures { result.now ≡ self.now.keys }
+    /// How many values there are.
+    pub fn len(&self) -> usize
+        ensures { result ≡ length self.now.values }
     {
-        self.held.keys()
+        self.held.len()
     }
 
-    /// The texts of the values, for the evaluation of filters.
-    pub fn forms(&self) -> &[Form]
-        ensures { result.now ≡ map form_of self.now.values }
+    /// Whether there is no value.
+    pub fn is_empty(&self) -> bool
+        ensures { result ≡ (length self.now.values == 0) }
     {
-        self.held.forms()
+        self.held.len() == 0
     }
+
+    /// Whether a value is compared by these octets: by those of its key, or by its own.
+    pub fn has(&self, by_keys: bool, octets: &[u8]) -> bool
+        ensures { result ≡ list_any (bytes_eq octets.now) (octets_by by_keys self.now) }
+    {
+        self.held.has(by_keys, octets)
+    }
+
+    /// What the values are compared by: the octets of their keys, or their own.
+    pub fn octets(&self, alloc: Global, by_keys: bool) -> Result<Vec<&[u8]>, AllocError>
+        ensures { IfOk result (λ v. map (λ octets. octets.now) v.items ≡ octets_by by_keys self.now) }
+    {
+        if by_keys {
+            octets_of_keys(alloc, self.parts())
+        } else {
+            octets_of_values(alloc, self.parts())
+        }
+    }
+}
+
+/// Whether values of a type are compared by their keys under the schema.
+fn is_by_keys(schema: &Schema, type_id: TypeId) -> bool
+    ensures { result ≡ is_some (equality_of schema.now type_id) }
+{
+    equality_rule(schema, type_id).is_some()
 }
 
 /// Values as they are kept.
@@ -246,40 +299,52 @@ fn forms_of(alloc: Global, values: &[Vec<u8>]) -> Result<Vec<Form>, AllocError>
     Ok(forms)
 }
 
-/// Whether two of the keys are the same.
-fn has_repeated_key(alloc: Global, keys: &[Key]) -> Result<bool, AllocError>
-    ensures { IfOk result (λ b. b ≡ has_some_twice bytes_eq keys.now) }
+/// Octets, and behind them those of each key.
+fn with_keys<'a>(octets: Vec<&'a [u8]>, keys: &'a [Key]) -> Result<Vec<&'a [u8]>, AllocError>
+    ensures { IfOk result (λ v. map (λ octets. octets.now) v.items ≡
+        map (λ octets. octets.now) octets.entry.items ++ keys.now) }
 {
-    let octets = octets_of_keys(alloc, keys)?;
-    has_twice(alloc, octets.as_slice())
-}
-
-/// Whether two of the values are the same octets.
-fn has_repeated_value(alloc: Global, values: &[Octets]) -> Result<bool, AllocError>
-    ensures { IfOk result (λ b. b ≡ has_some_twice bytes_eq values.now) }
-{
-    let octets = octets_of_values(alloc, values)?;
-    has_twice(alloc, octets.as_slice())
-}
-
-/// The octets of each key.
-pub fn octets_of_keys(alloc: Global, keys: &[Key]) -> Result<Vec<&[u8]>, AllocError>
-    ensures { IfOk result (λ v. map (λ octets. octets.now) v.items ≡ keys.now) }
-{
-    let mut list = Vec::new(alloc);
+    let mut list = octets;
     for key in keys {
         list.push(key.as_octets())?;
     }
     Ok(list)
 }
 
-/// The octets of each value.
-pub fn octets_of_values(alloc: Global, values: &[Octets]) -> Result<Vec<&[u8]>, AllocError>
-    ensures { IfOk result (λ v. map (λ octets. octets.now) v.items ≡ values.now) }
+/// Octets, and behind them those of each value.
+fn with_octets<'a>(octets: Vec<&'a [u8]>, values: &'a [Octets]) -> Result<Vec<&'a [u8]>, AllocError>
+    ensures { IfOk result (λ v. map (λ octets. octets.now) v.items ≡
+        map (λ octets. octets.now) octets.entry.items ++ values.now) }
 {
-    let mut list = Vec::new(alloc);
+    let mut list = octets;
     for value in values {
         list.push(value.as_slice())?;
+    }
+    Ok(list)
+}
+
+/// The octets of each key.
+fn octets_of_keys<'a>(alloc: Global, parts: Parts<'a>) -> Result<Vec<&'a [u8]>, AllocError>
+    ensures { IfOk result (λ v. map (λ octets. octets.now) v.items ≡ parts.entry.keys) }
+{
+    let mut list = Vec::with_capacity(alloc, parts.len())?;
+    let mut rest = parts;
+    while let Some((part, others)) = rest.split_first() {
+        list = with_keys(list, part.keys)?;
+        rest = others;
+    }
+    Ok(list)
+}
+
+/// The octets of each value.
+fn octets_of_values<'a>(alloc: Global, parts: Parts<'a>) -> Result<Vec<&'a [u8]>, AllocError>
+    ensures { IfOk result (λ v. map (λ octets. octets.now) v.items ≡ parts.entry.values) }
+{
+    let mut list = Vec::with_capacity(alloc, parts.len())?;
+    let mut rest = parts;
+    while let Some((part, others)) = rest.split_first() {
+        list = with_octets(list, part.values)?;
+        rest = others;
     }
     Ok(list)
 }

@@ -3,7 +3,7 @@
 // entries are read, then the further ones: the processor waits for all of a kind at once.
 
 use crate::place::{Place, Standing};
-use dir_entry::{Attribute, TypeId};
+use dir_entry::{Attribute, Key, TypeId};
 
 /// Types of attributes, as far as it matters to what is read ahead: those whose numbers are the same but for a multiple
 /// of 64 count as one.
@@ -75,13 +75,22 @@ fn first_piece(standing: &Standing, wanted: Wanted) -> u64 {
     }
 }
 
-/// The keys of an attribute.
-fn keys_of(attribute: &Attribute) -> u64 {
+/// The ends of these keys.
+fn ends_of(keys: &[Key]) -> u64 {
     let mut sum = 0u64;
-    for key in attribute.keys() {
+    for key in keys {
         sum = sum.wrapping_add(ends(key.as_octets()));
     }
     sum
+}
+
+/// The keys of an attribute, of the first part of its values: a filter seldom reads those of further parts, and they
+/// are many.
+fn keys_of(attribute: &Attribute) -> u64 {
+    match attribute.parts().split_first() {
+        Some((part, _)) => ends_of(part.keys),
+        None => 0,
+    }
 }
 
 /// The keys of an entry's attributes of these types.

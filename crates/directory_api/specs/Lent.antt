@@ -1,7 +1,9 @@
 -- What an attribute that is lent stands for.
-use Rattle.ldap_msg.specs.ldap_parts.Values.{PartialAttributeValue}
-use Rattle.directory_api.specs.declared.shown_attribute.ShownAttribute.{ShownAttribute}
+use Rattle.std.specs.Prelude.{ℕ, List, [], Option, None, Some}
+use Rattle.std.specs.Borrow.{Bor}
+use Rattle.dir_tree.specs.dir_entry.Entry.{KeyedAttribute}
 
--- an attribute that is lent
-abbrev pub lent_view : ShownAttribute → PartialAttributeValue
-lent_view a = record { description = a.description.now; values = a.values.now }
+-- the values that are shown: those of an attribute, or none
+abbrev pub lent_values : Option (Bor KeyedAttribute) → List (List ℕ)
+lent_values None = []
+lent_values (Some a) = a.now.values

@@ -2,17 +2,26 @@
 //! tells where the next one is. Here the first pieces of several entries are read, then their second ones, so that the
 //! processor waits for all of a kind at once.
 use crate::found::FoundEntry;
-use dir_tree::Attribute;
+use dir_tree::{Attribute, Octets};
 
-/// The first octets of an attribute's values.
-fn values_of(attribute: &Attribute) -> u64 {
+/// The first octets of these values.
+fn first_octets(values: &[Octets]) -> u64 {
     let mut sum = 0u64;
-    for value in attribute.values() {
+    for value in values {
         if let Some(first) = value.as_slice().first() {
             sum = sum.wrapping_add(*first as u64);
         }
     }
     sum
+}
+
+/// The first octets of an attribute's values, of the first part of them: those of further parts are so many that they
+/// would take the place of what was read ahead of other entries.
+fn values_of(attribute: &Attribute) -> u64 {
+    match attribute.parts().split_first() {
+        Some((part, _)) => first_octets(part.values),
+        None => 0,
+    }
 }
 
 /// The values of an entry.

@@ -5,7 +5,6 @@ ghost use Rattle.std.specs.List.{list_any};
 ghost use Rattle.std.specs.Str.{str_eq_ignore_ascii_case};
 ghost use Rattle.dir_tree.specs.dir_entry.Entry.{shown as without_keys, attributes_of};
 ghost use Rattle.ldap_msg.specs.ldap_parts.View.{attribute_view};
-ghost use Rattle.directory_api.specs.Lent.{lent_view};
 ghost use Rattle.directory_api.specs.Selection.{is_selected, first_name, shown, shown_of};
 
 use crate::selection::Selection;
@@ -131,15 +130,13 @@ impl Shows {
 
     /// What is shown of an attribute.
     fn show<'a>(&'a self, attribute: &'a Attribute) -> ShownAttribute<'a>
-        ensures { lent_view result ≡ shown self.now.schema self.now.types_only (without_keys attribute.now) }
+        ensures { result ≡ shown self.now.schema self.now.types_only (without_keys attribute.now) }
     {
-        ShownAttribute {
-            description: type_name(&self.schema, attribute.type_id()),
-            values: if self.types_only {
-                &[]
-            } else {
-                attribute.values()
-            },
+        let description = type_name(&self.schema, attribute.type_id());
+        if self.types_only {
+            ShownAttribute::without_values(description)
+        } else {
+            ShownAttribute::with_values(description, attribute)
         }
     }
 
@@ -149,7 +146,7 @@ impl Shows {
         alloc: Global,
         attributes: &'a [Attribute],
     ) -> Result<Vec<ShownAttribute<'a>>, AllocError>
-        ensures { IfOk result (λ v. map lent_view v.items ≡ shown_of self.now (attributes_of attributes.now)) }
+        ensures { IfOk result (λ v. v.items ≡ shown_of self.now (attributes_of attributes.now)) }
     {
         let mut all = Vec::with_capacity(alloc, attributes.len())?;
         for attribute in attributes {

@@ -13,7 +13,6 @@ use Rattle.dir_entry.specs.Entry.{KeyedAttribute}
 use Rattle.entry_changes.specs.Editing.{holds}
 use Rattle.entry_changes.specs.private.Compared.{compared_by, compared}
 use Rattle.dir_entry.proofs.Equivalents.{TestsAreItems, alike, any_alike}
-use Rattle.dir_entry.proofs.Shown.{any_of_map}
 use Rattle.entry_changes.proofs.Marked.{none_of}
 
 -- among other values, by keys

@@ -1,5 +1,5 @@
 -- Values that are looked for by a look at each.
-use Rattle.std.proofs.Common.{◌≡◌, ℕ, Bool, not, List, [], ◌∷◌, ◌++◌, is_some, refl, sym, ap, ap₂, ◌∙◌, subst, map}
+use Rattle.std.proofs.Common.{◌≡◌, ℕ, Bool, not, List, ◌++◌, is_some, sym, ap, ◌∙◌, subst, map}
 use Rattle.std.specs.List.{list_any, list_all}
 use Rattle.std.specs.Str.{bytes_eq}
 use Rattle.dir_entry.specs.ldap_schema.Schema.{SchemaModel}
@@ -8,29 +8,11 @@ use Rattle.dir_entry.specs.ldap_match.Keyed.{AreKeysOf}
 use Rattle.dir_entry.specs.Entry.{KeyedAttribute}
 use Rattle.dir_entry.specs.Picked.{picked}
 use Rattle.dir_entry.proofs.Equivalents.{TestsAreItems}
-use Rattle.dir_entry.proofs.Keyed.{map-map, keyed_join, keyed_picked}
+use Rattle.dir_entry.proofs.Keyed.{keyed_join, keyed_picked}
 use Rattle.entry_changes.specs.Editing.{holds, values_left}
 use Rattle.entry_changes.specs.Opening.{octets_by}
 use Rattle.entry_changes.proofs.Marked.{any_marked, all_marked, marks_turned, kept_left}
 use Rattle.entry_changes.proofs.Indexing.{marks_held}
-use Rattle.entry_changes.proofs.Reached.{some_of_octets}
-
-map_same : {A B : Type 0} (p q : A → B) → ((x : A) → p x ≡ q x) → (xs : List A) → map p xs ≡ map q xs
-map_same p q h [] = refl
-map_same p q h (x ∷ xs) = ap₂ (λ (y : _) (ys : List _). y ∷ ys) (h x) (map_same p q h xs)
-
--- marks of octets behind references
-pub marks_of_octets : {A : Type 0} (items : A → List ℕ) (xs ys zs ws : List A) (os ps : List (List ℕ)) → xs ≡ ys →
-    map items ys ≡ os → zs ≡ ws → map items ws ≡ ps
-    → map (λ o. not (list_any (λ other. bytes_eq (items o) (items other)) zs)) xs ≡
-    map (λ x. not (list_any (bytes_eq x) ps)) os
-marks_of_octets items xs ys zs ws os ps a b c d =
-    ap (map (λ o. not (list_any (λ other. bytes_eq (items o) (items other)) zs))) a
-    ∙ map_same (λ o. not (list_any (λ other. bytes_eq (items o) (items other)) zs))
-    (λ o. not (list_any (bytes_eq (items o)) ps)) (λ o. ap not (some_of_octets items (bytes_eq (items o)) zs ws ps
-    c d)) ys
-    ∙ sym (map-map (λ x. not (list_any (bytes_eq x) ps)) items ys)
-    ∙ ap (map (λ x. not (list_any (bytes_eq x) ps))) b
 
 module _ (law : TestsAreItems) (s : SchemaModel) (held given : KeyedAttribute) (e : held.kind ≡ given.kind)
     (h : AreKeysOf s held.kind held.values held.keys) (k : AreKeysOf s given.kind given.values given.keys)

@@ -1,10 +1,11 @@
 -- Attributes whose values are changed one by one: every value that was ever there stays in its place, and an index says
 -- since which place values of some octets are held. No contract above names it.
-use Rattle.std.specs.Prelude.{ℕ, ◌+◌, List, [], ◌∷◌, Bool, true, false, Option, None, Some}
+use Rattle.std.specs.Prelude.{ℕ, ◌+◌, List, [], ◌∷◌, Bool, false, Option, None, Some}
 use Rattle.std.specs.Bool.{nat_le}
 use Rattle.dir_entry.specs.Entry.{KeyedAttribute}
 use Rattle.dir_entry.specs.Picked.{picked}
 use Rattle.entry_changes.specs.declared.index.Index.{Index}
+pub use Rattle.dir_entry.specs.Compared.{octets_by}
 pub use Rattle.dir_entry.specs.ldap_words.NameOrder.{number_at as since}
 
 -- whether values are held at a place: they are held from a place on that isn't behind it
@@ -16,11 +17,6 @@ is_since (Some first) place = nat_le first place
 abbrev pub marks_from : (List ℕ → Option ℕ) → ℕ → List (List ℕ) → List Bool
 marks_from f i [] = []
 marks_from f i (x ∷ xs) = is_since (f x) i ∷ marks_from f (i + 1) xs
-
--- what values are compared by: their keys or their octets
-abbrev pub octets_by : Bool → KeyedAttribute → List (List ℕ)
-octets_by false a = a.values
-octets_by true a = a.keys
 
 -- of each value of an attribute, whether it is held
 abbrev pub marks_in : Bool → (List ℕ → Option ℕ) → KeyedAttribute → List Bool

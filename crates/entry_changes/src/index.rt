@@ -6,7 +6,7 @@ ghost use Rattle.std.specs.Str.{bytes_eq};
 ghost use Rattle.entry_changes.specs.Opening.{since, octets_by as compared_by, marks_in};
 
 use crate::since::{Since, are_all_held, is_some_held, marks, put_all, take_all};
-use dir_entry::{Attribute, octets_of_keys, octets_of_values};
+use dir_entry::Attribute;
 use std::alloc::{AllocError, Global};
 use std::collections::BTreeMap;
 
@@ -35,28 +35,13 @@ pub struct Indexed {
     pub index: Index,
 }
 
-/// What the values are compared by.
-pub fn octets_by<'a>(
-    alloc: Global,
-    by_keys: bool,
-    attribute: &'a Attribute,
-) -> Result<Vec<&'a [u8]>, AllocError>
-    ensures { IfOk result (λ v. map (λ octets. octets.now) v.items ≡ compared_by by_keys attribute.now) }
-{
-    if by_keys {
-        octets_of_keys(alloc, attribute.keys())
-    } else {
-        octets_of_values(alloc, attribute.values())
-    }
-}
-
 /// An index of an attribute that holds all its values.
 pub fn index_of(alloc: Global, by_keys: bool, attribute: &Attribute) -> Result<Index, AllocError>
     ensures by_keys { IfOk result (λ i. i.by_keys ≡ by_keys) }
     ensures held { IfOk result (λ i. (q : List ℕ) → since i.held.entries q ≡
         cond (list_any (bytes_eq q) (compared_by by_keys attribute.now)) (Some 0) None) }
 {
-    let octets = octets_by(alloc, by_keys, attribute)?;
+    let octets = attribute.octets(alloc, by_keys)?;
     let mut held = BTreeMap::new(alloc);
     put_all(alloc, &mut held, octets.as_slice(), 0)?;
     Ok(Index { by_keys, held })
@@ -70,7 +55,7 @@ pub fn marks_of(
 ) -> Result<Vec<bool>, AllocError>
     ensures { IfOk result (λ v. v.items ≡ marks_in index.now.by_keys (since index.now.held.entries) attribute.now) }
 {
-    let octets = octets_by(alloc, index.by_keys, attribute)?;
+    let octets = attribute.octets(alloc, index.by_keys)?;
     marks(alloc, &index.held, octets.as_slice())
 }
 
@@ -79,7 +64,7 @@ pub fn holds_some_of(alloc: Global, index: &Index, given: &Attribute) -> Result<
     ensures { IfOk result (λ b. b ≡ list_any (λ x. is_some (since index.now.held.entries x))
         (compared_by index.now.by_keys given.now)) }
 {
-    let octets = octets_by(alloc, index.by_keys, given)?;
+    let octets = given.octets(alloc, index.by_keys)?;
     Ok(is_some_held(&index.held, octets.as_slice()))
 }
 
@@ -88,7 +73,7 @@ pub fn holds_all_of(alloc: Global, index: &Index, given: &Attribute) -> Result<b
     ensures { IfOk result (λ b. b ≡ list_all (λ x. is_some (since index.now.held.entries x))
         (compared_by index.now.by_keys given.now)) }
 {
-    let octets = octets_by(alloc, index.by_keys, given)?;
+    let octets = given.octets(alloc, index.by_keys)?;
     Ok(are_all_held(&index.held, octets.as_slice()))
 }
 
@@ -106,7 +91,7 @@ pub fn hold(
     ensures others { (q : List ℕ) → list_any (bytes_eq q) (compared_by index.old.by_keys given.now) ≡ false →
         since index.new.held.entries q ≡ since index.old.held.entries q }
 {
-    let octets = octets_by(alloc, index.by_keys, given)?;
+    let octets = given.octets(alloc, index.by_keys)?;
     put_all(alloc, &mut index.held, octets.as_slice(), place)
 }
 
@@ -117,7 +102,7 @@ pub fn let_go(alloc: Global, index: &mut Index, given: &Attribute) -> Result<(),
         cond (list_any (bytes_eq q) (compared_by index.old.by_keys given.now)) None (since index.old.held.entries q)) }
     ensures err { OnErr result (index.new ≡ index.old) }
 {
-    let octets = octets_by(alloc, index.by_keys, given)?;
+    let octets = given.octets(alloc, index.by_keys)?;
     take_all(&mut index.held, octets.as_slice());
     Ok(())
 }

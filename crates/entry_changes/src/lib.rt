@@ -1,8 +1,8 @@
 //! Changes an entry's values, or refuses the change.
 //!
 //! An entry while it is modified (`working`): the changes of an attribute (`changing` over `placing`) and what a
-//! relative name asks (`naming`). An attribute whose values are changed one by one is `opened`. The first change looks
-//! for few values among all (`searched`). Later ones ask an `index`, which maps keys to the place `since` which they
+//! relative name asks (`naming`). An attribute whose values are changed one by one is `opened`. The first changes
+//! look for few values among all (`searched`). Later ones ask an `index`, which maps keys to the place `since` which they
 //! are held, and what they delete keeps its place until the modify is over: a change then costs a look-up for each
 //! value that it names, whatever the attribute holds.
 //!

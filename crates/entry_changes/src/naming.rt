@@ -17,7 +17,7 @@ ghost use Rattle.entry_changes.specs.Naming.{has_value, with_value, with_rdn, ha
 use crate::changing::{add_values, delete_values};
 use crate::working::Working;
 use dir_entry::{
-    Attribute, Entry, EntryError, Key, Octets, Rule, Schema, TypeAndValue, TypeId, ValueError,
+    Attribute, Entry, EntryError, Key, Rule, Schema, TypeAndValue, TypeId, ValueError,
     equality_rule, key, tests_are_items,
 };
 use std::alloc::{AllocError, Global};
@@ -77,20 +77,6 @@ fn key_or_none(
     }
 }
 
-/// Whether one of the keys is this one.
-fn has_key(keys: &[Key], key: &Key) -> bool
-    ensures { result ≡ list_any (bytes_eq key.now) keys.now }
-{
-    keys.iter().any(|other| key.is_same(other))
-}
-
-/// Whether one of the values has these octets.
-pub fn has_octets(values: &[Octets], octets: &[u8]) -> bool
-    ensures { result ≡ list_any (bytes_eq octets.now) values.now }
-{
-    values.iter().any(|value| octets == value.as_slice())
-}
-
 /// Whether the attribute has a value that is equivalent to this one under the rule.
 fn holds_by_rule(
     alloc: Global,
@@ -105,7 +91,7 @@ fn holds_by_rule(
 {
     tests_are_items();
     match key_or_none(alloc, schema, rule, value)? {
-        Some(key) => Ok(has_key(attribute.keys(), &key)),
+        Some(key) => Ok(attribute.has(true, key.as_octets())),
         None => Ok(false),
     }
 }
@@ -122,7 +108,7 @@ fn holds_value(
 {
     match equality_rule(schema, attribute.type_id()) {
         Some(rule) => holds_by_rule(alloc, schema, rule, attribute, value),
-        None => Ok(has_octets(attribute.values(), value)),
+        None => Ok(attribute.has(false, value)),
     }
 }
 

@@ -12,24 +12,28 @@ ghost use Rattle.entry_changes.specs.Opening.{since, octets_by, held_in};
 ghost use Rattle.entry_changes.specs.private.Opening.{Fits, IsIndexed};
 
 use crate::index::{Index, Indexed, hold, holds_all_of, holds_some_of, index_of, let_go, marks_of};
-use crate::searched::{has_all_of, has_some_of, marks_without};
+use crate::searched::{has_all_of, has_some_of, without};
 use dir_entry::{Attribute, EntryError, Schema, TypeId, equality_rule, tests_are_items};
 use std::alloc::{AllocError, Global};
 use std::marker::Model;
 
-/// The first change of an attribute looks for so few values among all that it has. An index costs as much as some
-/// dozens of such looks.
-const FEW: usize = 8;
+/// A change of an attribute looks for so few values among all that it has: a look-up compares digests. An index costs as
+/// much as some hundreds of look-ups.
+const FEW: usize = 64;
+
+/// So many changes look for their values. The next one makes an index.
+const SEARCHES: usize = 16;
 
 /// An attribute whose values may be changed one by one: a value that is deleted stays in its place, and the index says
 /// which are held.
 #[derive(Drop)]
 pub struct Opened {
     attribute: Attribute,
-    /// Made by the first change of many values, or by the second one; without it all values are held.
+    /// Made by the first change of many values, or where many changes have looked for theirs; without it all values are
+    /// held.
     index: Option<Index>,
-    /// Whether a change has looked at each value: the next one makes an index.
-    is_searched: bool,
+    /// How many changes have looked for their values.
+    searches: usize,
 }
 
 impl Model for Opened {
@@ -130,12 +134,12 @@ fn extended(
         index.by_keys given) }
 {
     let mut index = index;
-    hold(alloc, &mut index, &given, attribute.values().len())?;
+    hold(alloc, &mut index, &given, attribute.len())?;
     let attribute = attribute.joined(alloc, given)?;
     Ok(Opened {
         attribute,
         index: Some(index),
-        is_searched: true,
+        searches: 0,
     })
 }
 
@@ -162,7 +166,7 @@ fn lessened(
     Ok(Opened {
         attribute,
         index: Some(index),
-        is_searched: true,
+        searches: 0,
     })
 }
 
@@ -191,10 +195,11 @@ fn joined_by_index(
     Ok(extended(alloc, attribute, index, given)?)
 }
 
-/// The same, asked by a look at each value.
+/// The same, asked by a look-up of each given value.
 fn joined_by_search(
     alloc: Global,
     schema: &Schema,
+    searches: usize,
     held: Attribute,
     given: Attribute,
 ) -> Result<Opened, EntryError>
@@ -217,7 +222,7 @@ fn joined_by_search(
     Ok(Opened {
         attribute,
         index: None,
-        is_searched: true,
+        searches: searches.saturating_add(1),
     })
 }
 
@@ -239,8 +244,9 @@ pub fn joined(
         given.values) e) }
 {
     if held.is_to_search(&given) {
+        let searches = held.searches();
         let attribute = held.into_attribute(alloc)?;
-        return joined_by_search(alloc, schema, attribute, given);
+        return joined_by_search(alloc, schema, searches, attribute, given);
     }
     joined_by_index(alloc, schema, held, given)
 }
@@ -270,10 +276,11 @@ fn left_by_index(
     Ok(lessened(alloc, attribute, index, given)?)
 }
 
-/// The same, asked by a look at each value.
+/// The same, asked by a look-up of each given value.
 fn left_by_search(
     alloc: Global,
     schema: &Schema,
+    searches: usize,
     held: Attribute,
     given: &Attribute,
 ) -> Result<Opened, EntryError>
@@ -292,12 +299,11 @@ fn left_by_search(
     if !has_all_of(alloc, by_keys, &held, given)? {
         return Err(EntryError::NoSuchAttribute);
     }
-    let marks = marks_without(alloc, by_keys, &held, given)?;
-    let attribute = held.kept(alloc, marks.as_slice())?;
+    let attribute = without(alloc, by_keys, held, given)?;
     Ok(Opened {
         attribute,
         index: None,
-        is_searched: true,
+        searches: searches.saturating_add(1),
     })
 }
 
@@ -319,8 +325,9 @@ pub fn left(
         (λ e. RefusesFor 16 (not (list_all (holds schema.now held.kind held.values) given.now.values)) e) }
 {
     if held.is_to_search(given) {
+        let searches = held.searches();
         let attribute = held.into_attribute(alloc)?;
-        return left_by_search(alloc, schema, attribute, given);
+        return left_by_search(alloc, schema, searches, attribute, given);
     }
     left_by_index(alloc, schema, held, given)
 }
@@ -333,7 +340,7 @@ impl Opened {
         Opened {
             attribute,
             index: None,
-            is_searched: false,
+            searches: 0,
         }
     }
 
@@ -365,12 +372,17 @@ impl Opened {
     {
         match &self.index {
             Some(index) => index.held.is_empty(),
-            None => self.attribute.values().is_empty(),
+            None => self.attribute.is_empty(),
         }
     }
 
-    /// Whether the given values are looked for among all: they are few, and no change has looked at each value yet.
+    /// How many changes have looked for their values.
+    fn searches(&self) -> usize {
+        self.searches
+    }
+
+    /// Whether the given values are looked for among all: they and the changes are few, and there is no index.
     fn is_to_search(&self, given: &Attribute) -> bool {
-        !self.is_searched && (self.index.is_none() && given.values().len() <= FEW)
+        self.index.is_none() && self.searches < SEARCHES && given.len() <= FEW
     }
 }

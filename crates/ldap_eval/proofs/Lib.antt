@@ -8,3 +8,4 @@ pub mod Matches
 pub mod Kept
 pub mod MatchValues
 pub mod Named
+pub mod ByParts

@@ -3,17 +3,18 @@
 ghost use Rattle.std.specs.Prelude.{◌≡◌, ◌<◌, length, map, Some, slice_get};
 ghost use Rattle.dir_entry.specs.ldap_schema.Schema.{SchemaModel};
 ghost use Rattle.dir_entry.specs.ldap_match.Truth.{conjunction, disjunction};
+ghost use Rattle.dir_entry.specs.ldap_match.Keyed.{test_value};
 ghost use Rattle.ldap_filter.specs.Tree.{Tree};
 ghost use Rattle.dir_entry.specs.Entry.{KeyedAttribute, attributes_of, IsKeyedBy};
 ghost use Rattle.ldap_eval.specs.Value.{filter_value};
-ghost use Rattle.ldap_eval.specs.Bound.{bound_value, leaf_value as value_of_leaf, leaf_on as leaf_on_attribute, match_on as match_on_attribute, match_on_name_pair, match_of_entry, IsBoundTo};
+ghost use Rattle.ldap_eval.specs.Bound.{bound_value, leaf_value as value_of_leaf, leaf_on as leaf_on_attribute, match_on as match_on_one, match_on_name_pair, match_of_entry, IsBoundTo};
 ghost use Rattle.dir_entry.specs.ldap_dn.Names.{RdnModel};
 ghost use Rattle.dir_entry.specs.ldap_dn.Pairs.{pair_in, pairs_in, pairs_of};
 
 use crate::bound::{BoundFilter, Leaf, Match};
-use crate::matching::{match_on_pair, match_on_values};
+use crate::matching::{match_on_attribute, match_on_pair, truth};
 use crate::name_pairs::NamePairs;
-use dir_entry::{Attribute, Entry, Rdn, Truth, TypeAndValue, item_on_attribute};
+use dir_entry::{Attribute, Entry, Rdn, Test, Truth, TypeAndValue, item_on_attribute};
 
 /// The value of a bound filter on an entry, by its name and its attributes (RFC 4511 4.5.1.7). Takes no memory.
 pub fn value<N: NamePairs>(bound: &BoundFilter, entry: &Entry, name: &N) -> Truth
@@ -82,7 +83,7 @@ fn match_truth<N: NamePairs>(matching: &Match, entry: &Entry, name: &N) -> Truth
 
 /// The `or` of the match over the attributes.
 fn any_match(matching: &Match, attributes: &[Attribute]) -> Truth
-    ensures { result ≡ disjunction (map (match_on_attribute matching.now) attributes.now) }
+    ensures { result ≡ disjunction (map (match_on_one matching.now) attributes.now) }
 {
     let mut truth = Truth::False;
     for attribute in attributes {
@@ -96,17 +97,12 @@ fn any_match(matching: &Match, attributes: &[Attribute]) -> Truth
 
 /// The match on one attribute: its test, where the attribute is of its type.
 fn match_on(matching: &Match, attribute: &Attribute) -> Truth
-    ensures { result ≡ match_on_attribute matching.now attribute.now }
+    ensures { result ≡ match_on_one matching.now attribute.now }
 {
     if attribute.type_id() != matching.type_id {
         return Truth::False;
     }
-    match_on_values(
-        &matching.test,
-        attribute.values(),
-        attribute.forms(),
-        attribute.keys(),
-    )
+    match_on_attribute(&matching.test, attribute)
 }
 
 /// The `or` of the match over the pairs of the name, relative name by relative name, from the last one up.
@@ -192,8 +188,37 @@ fn leaf_at(leaf: &Leaf, entry: &Entry, place: usize) -> Truth
     ensures { (a : KeyedAttribute) → slice_get entry.now place ≡ Some a → result ≡ leaf_on_attribute leaf.now a }
 {
     if entry.type_at(place) == leaf.type_id {
-        item_on_attribute(&leaf.test, entry.attributes()[place].keys())
+        tested(&leaf.test, &entry.attributes()[place])
     } else {
         Truth::False
     }
+}
+
+/// A test on the keys of an attribute. Whether it has a key, the attribute finds without a look at each.
+fn tested(test: &Test, attribute: &Attribute) -> Truth
+    ensures { result ≡ test_value test.now attribute.now.keys }
+{
+    match test {
+        Test::Equal(key) => truth(attribute.has(true, key.as_octets())),
+        _ => tested_by_parts(test, attribute),
+    }
+}
+
+/// A test on the keys of an attribute, part by part.
+fn tested_by_parts(test: &Test, attribute: &Attribute) -> Truth
+    ensures { result ≡ test_value test.now attribute.now.keys }
+{
+    let Some((first, others)) = attribute.parts().split_first() else {
+        return item_on_attribute(test, &[]);
+    };
+    let mut rest = others;
+    let mut truth = item_on_attribute(test, first.keys);
+    while let Some((part, others)) = rest.split_first() {
+        if truth == Truth::True {
+            return truth;
+        }
+        truth = truth.or(item_on_attribute(test, part.keys));
+        rest = others;
+    }
+    truth
 }

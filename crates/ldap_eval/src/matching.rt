@@ -15,8 +15,8 @@ ghost use Rattle.ldap_eval.specs.declared.naming_rules.How.{How};
 
 use crate::naming_rules::{How, asks_less, goes_by_key, rule_for};
 use dir_entry::{
-    Form, Key, Octets, Rule, Schema, Truth, TypeAndValue, TypeId, is_meaningful, key_or_none,
-    keys_compare, meets, name_keys_are_of_names, parts_compare, texts_tell,
+    Attribute, Form, Key, Octets, Rule, Schema, Truth, TypeAndValue, TypeId, is_meaningful,
+    key_or_none, keys_compare, meets, name_keys_are_of_names, parts_compare, texts_tell,
 };
 use std::alloc::{AllocError, Global};
 
@@ -101,7 +101,7 @@ pub fn is_matchable(
 }
 
 /// The truth of what is decided.
-fn truth(decided: bool) -> Truth
+pub fn truth(decided: bool) -> Truth
     ensures { result ≡ truth_of decided }
 {
     if decided { Truth::True } else { Truth::False }
@@ -135,8 +135,8 @@ fn has_text(values: &[Octets], forms: &[Form], rule: Rule, asserted: &Asserted) 
     false
 }
 
-/// A test on the values of an attribute, with their texts and their keys.
-pub fn match_on_values(test: &MatchTest, values: &[Octets], forms: &[Form], keys: &[Key]) -> Truth
+/// A test on values, with their texts and their keys.
+fn match_on_values(test: &MatchTest, values: &[Octets], forms: &[Form], keys: &[Key]) -> Truth
     requires forms { forms.now ≡ map form_of values.now }
     ensures { result ≡ match_value test.now values.now keys.now }
 {
@@ -145,6 +145,25 @@ pub fn match_on_values(test: &MatchTest, values: &[Octets], forms: &[Form], keys
         MatchTest::Kept(asserted) => truth(has_kept(keys, asserted)),
         MatchTest::Text(rule, asserted) => truth(has_text(values, forms, *rule, asserted)),
     }
+}
+
+/// A test on the values of an attribute, part by part.
+pub fn match_on_attribute(test: &MatchTest, attribute: &Attribute) -> Truth
+    ensures { result ≡ match_value test.now attribute.now.values attribute.now.keys }
+{
+    let Some((first, others)) = attribute.parts().split_first() else {
+        return match_on_values(test, &[], &[], &[]);
+    };
+    let mut rest = others;
+    let mut truth = match_on_values(test, first.values, first.forms, first.keys);
+    while let Some((part, others)) = rest.split_first() {
+        if truth == Truth::True {
+            return truth;
+        }
+        truth = truth.or(match_on_values(test, part.values, part.forms, part.keys));
+        rest = others;
+    }
+    truth
 }
 
 /// Whether there is a key that meets the asserted one.

@@ -1,5 +1,8 @@
-use Rattle.std.proofs.Common.{◌≡◌, ◌++◌, drop, map}
+use Rattle.std.proofs.Common.{ℕ, List, Bor, ◌≡◌, ◌++◌, map}
 use Rattle.dir_entry.proofs.attribute.octets_of_keys.Given as goal
 
-abbrev pub invariant-loop-key : goal.invariant-loop-key
-invariant-loop-key l = map (λ o. o.now) l.list.items ++ drop l.key-index l.keys ≡ l.keys
+abbrev pub invariant-loop-part : goal.invariant-loop-part
+invariant-loop-part l = map (λ (o : Bor (List ℕ)). o.now) l.list.items ++ l.rest.keys ≡ l.fn.parts.keys
+
+abbrev pub decreases-loop-part : goal.decreases-loop-part
+decreases-loop-part l = l.rest.count

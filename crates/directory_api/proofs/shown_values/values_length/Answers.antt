@@ -1,11 +1,16 @@
--- What search doesn't prove of `values_length`: `loop-value-preserved`, by lemmas of `ShownValues`.
-use Rattle.std.proofs.Common.{ℕ, List, length, min, ap}
-use Rattle.directory_api.proofs.ShownValues.{value_measure}
+-- What search doesn't prove of `values_length`: `loop-part-preserved` and what it returns, by lemmas of `ShownValues`.
+use Rattle.std.proofs.Common.{arith}
+use Rattle.directory_api.proofs.ShownValues.{measured_more, measured_all}
 use Rattle.directory_api.proofs.shown_values.values_length.Goals as goal
 
-pub loop-value-preserved : goal.loop-value-preserved
-loop-value-preserved c =
-    value_measure c.args.values.now c.loop-value.value-index c.value-item.result 4294967296 c.loop-value.total
-    c.element_length.result c.add_lengths-total.result c.loop-value-test.true c.value-item.is c.loop-value.invariant
-    (c.element_length.ensures 4 c.value-item.result (ap (λ (bs : List ℕ). min (length bs) 4294967296)
-    c.as_slice.ensures)) c.add_lengths-total.ensures
+pub loop-part-preserved : goal.loop-part-preserved
+loop-part-preserved c = record {
+  within = omega (arith, c.add_lengths-total.ensures);
+  whole = measured_more c.loop-part.rest.values c.in-Some.part.values.now c.in-Some.others.values 4294967296
+      c.loop-part.total c.part_length.result c.add_lengths-total.result _ c.in-Some.ensures.values
+      c.part_length.ensures c.add_lengths-total.ensures c.loop-part.invariant.whole;
+}
+
+pub returns : goal.returns
+returns c = measured_all c.loop-part.rest.values 4294967296 c.loop-part.total _ c.in_default.ensures.values
+    c.loop-part.invariant.within c.loop-part.invariant.whole

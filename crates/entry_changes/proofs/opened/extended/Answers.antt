@@ -1,6 +1,6 @@
 -- What search doesn't prove of `extended`: the invariant, the clause `values` and the clause `octets`, by lemmas of
 -- `Indexing`.
-use Rattle.std.proofs.Common.{Bool, length, ap, sym, subst, ◌∙◌}
+use Rattle.std.proofs.Common.{Bool, ap, sym, subst, ◌∙◌}
 use Rattle.entry_changes.specs.Opening.{since, octets_by, held_in}
 use Rattle.entry_changes.specs.private.Opening.{Fits}
 use Rattle.entry_changes.proofs.Indexing.{more_values, fits_more}
@@ -11,9 +11,9 @@ invariant_of-result c =
     subst (λ (b : Bool). Fits b (since c.hold.new.index.held.entries) c.in_ok-attribute.attribute)
     (sym c.in_ok-hold.ensures.by_keys)
     (fits_more c.args.index.by_keys (since c.args.index.held.entries) (since c.hold.new.index.held.entries)
-    c.args.attribute c.in_ok-attribute.attribute c.args.given (length c.values.result.now) c.requires.fits
+    c.args.attribute c.in_ok-attribute.attribute c.args.given c.len.result c.requires.fits
     c.requires.long
-    (ap length c.values.ensures) c.in_ok-hold.ensures.held c.requires.fresh c.in_ok-attribute.ensures.values
+    c.len.ensures c.in_ok-hold.ensures.held c.requires.fresh c.in_ok-attribute.ensures.values
     c.in_ok-attribute.ensures.keys)
 
 pub returns-clause-values : goal.returns-clause-values
@@ -21,9 +21,9 @@ returns-clause-values c =
     ap (λ (b : Bool). (held_in b (since c.hold.new.index.held.entries) c.in_ok-attribute.attribute).values)
     c.in_ok-hold.ensures.by_keys
     ∙ (more_values c.args.index.by_keys (since c.args.index.held.entries) (since c.hold.new.index.held.entries)
-    c.args.attribute c.in_ok-attribute.attribute c.args.given (length c.values.result.now) c.requires.fits
+    c.args.attribute c.in_ok-attribute.attribute c.args.given c.len.result c.requires.fits
     c.requires.long
-    (ap length c.values.ensures) c.in_ok-hold.ensures.held c.requires.fresh c.in_ok-attribute.ensures.values
+    c.len.ensures c.in_ok-hold.ensures.held c.requires.fresh c.in_ok-attribute.ensures.values
     c.in_ok-attribute.ensures.keys).0
 
 pub returns-clause-octets : goal.returns-clause-octets
@@ -31,7 +31,7 @@ returns-clause-octets c =
     ap (λ (b : Bool). octets_by c.args.index.by_keys (held_in b (since c.hold.new.index.held.entries)
     c.in_ok-attribute.attribute)) c.in_ok-hold.ensures.by_keys
     ∙ (more_values c.args.index.by_keys (since c.args.index.held.entries) (since c.hold.new.index.held.entries)
-    c.args.attribute c.in_ok-attribute.attribute c.args.given (length c.values.result.now) c.requires.fits
+    c.args.attribute c.in_ok-attribute.attribute c.args.given c.len.result c.requires.fits
     c.requires.long
-    (ap length c.values.ensures) c.in_ok-hold.ensures.held c.requires.fresh c.in_ok-attribute.ensures.values
+    c.len.ensures c.in_ok-hold.ensures.held c.requires.fresh c.in_ok-attribute.ensures.values
     c.in_ok-attribute.ensures.keys).1

@@ -1,5 +1,5 @@
 -- What search doesn't prove of `with_values`: the clause `keyed`, by lemmas of `Keyed`.
-use Rattle.std.proofs.Common.{ℕ, List, ◌≡◌, ◌++◌, ap, sym, subst, ◌∙◌}
+use Rattle.std.proofs.Common.{ℕ, List, ◌≡◌, ◌++◌, sym, subst}
 use Rattle.ldap_match.specs.Keyed.{AreKeysOf}
 use Rattle.dir_entry.specs.Entry.{KeyedAttribute}
 use Rattle.dir_entry.specs.Kept.{values_in, keys_in}
@@ -12,13 +12,11 @@ returns-clause-keyed c = λ k.
     let t = c.self.inside.type_id in
     let more = c.in_ok-more.more in
     let own = subst (λ (a : KeyedAttribute). AreKeysOf s a.kind a.values a.keys) (sym c.self.view_is) k in
-    let values : values_in c.in_ok-held.field-0 ≡ values_in c.self.inside.held ++ more.values.items =
-    c.in_ok-held.ensures.values ∙ c.in_ok-lists.ensures.values ∙ ap (λ (x : List (List ℕ)). x ++ more.values.items)
-    c.in_ok-into_lists.ensures.values in
-    let keys : keys_in c.in_ok-held.field-0 ≡ keys_in c.self.inside.held ++ more.keys.items =
-    c.in_ok-held.ensures.keys ∙ c.in_ok-lists.ensures.keys ∙ ap (λ (x : List (List ℕ)). x ++ more.keys.items)
-    c.in_ok-into_lists.ensures.keys in
-    subst (λ (v : List (List ℕ)). AreKeysOf s t v (keys_in c.in_ok-held.field-0)) (sym values)
+    let values : values_in c.in_ok-joined_lists.field-0 ≡ values_in c.self.inside.held ++ more.values.items =
+    c.in_ok-joined_lists.ensures.values in
+    let keys : keys_in c.in_ok-joined_lists.field-0 ≡ keys_in c.self.inside.held ++ more.keys.items =
+    c.in_ok-joined_lists.ensures.keys in
+    subst (λ (v : List (List ℕ)). AreKeysOf s t v (keys_in c.in_ok-joined_lists.field-0)) (sym values)
     (subst (λ (l : List (List ℕ)). AreKeysOf s t (values_in c.self.inside.held ++ more.values.items) l) (sym keys)
     (keyed_join s t (values_in c.self.inside.held) (keys_in c.self.inside.held) more.values.items more.keys.items own
     c.in_ok-more.ensures.keyed))
