@@ -1,12 +1,14 @@
 -- What a change of an entry's attributes leaves as it is: keys at both ends, attributes that are the same, postings
 -- that aren't marked.
-use Rattle.std.proofs.Common.{◌≡◌, ℕ, Bool, true, false, List, [], ◌∷◌, ◌++◌, length, nat_eq, refl, sym, ap, ap₂, ◌∙◌}
+use Rattle.std.proofs.Common.{◌≡◌, ◌<◌, ◌+◌, ℕ, suc, Bool, true, false, List, [], ◌∷◌, ◌++◌, length, map, take, drop, get_or, nat_eq, refl, sym, ap, ap₂, ◌∙◌, add-one, drop-cons}
+use Rattle.std.proofs.lemmas.List.{map-append, take_more}
 use Rattle.std.specs.Prelude.{◌&&◌, ◌||◌, nat_lt}
 use Rattle.std.specs.List.{list_any}
 use Rattle.std.specs.Str.{bytes_eq}
 use Rattle.std.proofs.lemmas.Bool.{eqb-true}
 use Rattle.std.proofs.lemmas.List.Folds.{list_any-append}
 use Rattle.std.proofs.lemmas.Slice.Eq.{bytes_eq-Decides}
+use Rattle.index_choice.specs.dir_entry.ldap_match.Keyed.{is_same_key}
 use Rattle.index_choice.specs.dir_entry.Entry.{KeyedAttribute}
 use Rattle.index_choice.specs.declared.kinds.Kinds.{Kinds}
 use Rattle.index_choice.specs.Choice.{kinds_of}
@@ -18,21 +20,66 @@ use Rattle.dir_index.specs.Postings.{is_of, has_type, has_several}
 use Rattle.dir_index.specs.private.Marked.{lists_entry, lists_by, is_of_key, is_run_of, is_from_key, is_from_presence, makes_several, is_from_several, is_from_attribute}
 use Rattle.dir_index.specs.private.Whole.{moved}
 use Rattle.dir_index.proofs.Keys.{one_list}
-use Rattle.dir_index.proofs.Marking.{entry_more, entry_none}
+use Rattle.dir_index.proofs.Marking.{or_assoc, or_swap, entry_more, entry_none}
 
 -- ---- keys at both ends
 
-pub any_front : (f : List ℕ → Bool) (xs ys rest more : List (List ℕ)) (x y : List ℕ) → xs ≡ x ∷ rest → ys ≡ y ∷ more →
-    bytes_eq x y ≡ true → list_any f rest ≡ list_any f more → list_any f xs ≡ list_any f ys
-any_front f xs ys rest more x y a b e h =
-    ap (list_any f) a ∙ ap₂ (λ (p q : Bool). p || q) (ap f ((bytes_eq-Decides x y).0 e)) h ∙ sym (ap (list_any f) b)
+pub front_step : {A : Type 0} (key : A → List ℕ) (f : List ℕ → Bool) (xs ys : List A) (i j : ℕ) (x y : A) →
+    i < length xs → j < length ys → x ≡ get_or xs i x → y ≡ get_or ys j y → bytes_eq (key x) (key y) ≡ true →
+    list_any f (map key (drop (i + 1) xs)) ≡ list_any f (map key (drop (j + 1) ys)) → list_any f (map key (drop i xs)) ≡
+    list_any f (map key (drop j ys))
+front_step {A} key f xs ys i j x y h k a b e same =
+    at xs i x h a ∙ ap₂ (λ (p q : Bool). p || q) (ap f ((bytes_eq-Decides (key x) (key y)).0 e)) same
+    ∙ sym (at ys j y k b)
+  where
+    at : (zs : List A) (n : ℕ) (z : A) → n < length zs → z ≡ get_or zs n z → list_any f (map key (drop n zs)) ≡
+        (f (key z) || list_any f (map key (drop (n + 1) zs)))
+    at zs n z l is =
+        ap (λ (t : List A). list_any f (map key t)) (drop-cons zs n z l)
+        ∙ ap (λ (t : A). f (key t) || list_any f (map key (drop (suc n) zs))) (sym is)
+        ∙ ap (λ (m : ℕ). f (key z) || list_any f (map key (drop m zs))) (sym (add-one n))
 
-pub any_end : (f : List ℕ → Bool) (xs ys rest more : List (List ℕ)) (x y : List ℕ) → xs ≡ rest ++ (x ∷ []) →
-    ys ≡ more ++ (y ∷ []) → bytes_eq x y ≡ true → list_any f rest ≡ list_any f more → list_any f xs ≡ list_any f ys
-any_end f xs ys rest more x y a b e h =
-    ap (list_any f) a ∙ list_any-append f rest (x ∷ [])
-    ∙ ap₂ (λ (p q : Bool). p || (q || false)) h (ap f ((bytes_eq-Decides x y).0 e))
-    ∙ sym (list_any-append f more (y ∷ [])) ∙ sym (ap (list_any f) b)
+pub end_step : {A : Type 0} (key : A → List ℕ) (f : List ℕ → Bool) (xs ys : List A) (i j : ℕ) (x y : A) →
+    i < length xs → j < length ys → x ≡ get_or xs i x → y ≡ get_or ys j y → bytes_eq (key x) (key y) ≡ true →
+    list_any f (map key (take i xs)) ≡ list_any f (map key (take j ys)) → list_any f (map key (take (i + 1) xs)) ≡
+    list_any f (map key (take (j + 1) ys))
+end_step {A} key f xs ys i j x y h k a b e same =
+    at xs i x h a ∙ ap₂ (λ (p q : Bool). p || (q || false)) same (ap f ((bytes_eq-Decides (key x) (key y)).0 e))
+    ∙ sym (at ys j y k b)
+  where
+    at : (zs : List A) (n : ℕ) (z : A) → n < length zs → z ≡ get_or zs n z → list_any f (map key (take (n + 1) zs)) ≡
+        (list_any f (map key (take n zs)) || (f (key z) || false))
+    at zs n z l is =
+        ap (λ (t : List A). list_any f (map key t)) (take_more zs n z l
+        ∙ ap (λ (t : A). take n zs ++ t ∷ []) (sym is))
+        ∙ ap (list_any f) (map-append key (take n zs) (z ∷ []))
+        ∙ list_any-append f (map key (take n zs)) (key z ∷ [])
+
+both_ways : (a b : Bool) → (a ≡ true → b ≡ true) → (b ≡ true → a ≡ true) → a ≡ b
+both_ways true true f g = refl
+both_ways true false f g = sym (f refl)
+both_ways false true f g = g refl
+both_ways false false f g = refl
+
+turned : (k l : List ℕ) → bytes_eq k l ≡ bytes_eq l k
+turned k l = both_ways (bytes_eq k l) (bytes_eq l k) (λ h. (bytes_eq-Decides l k).1
+    (sym ((bytes_eq-Decides k l).0 h))) (λ h. (bytes_eq-Decides k l).1 (sym ((bytes_eq-Decides l k).0 h)))
+
+-- a key that is looked for among others
+pub any_turned : (k : List ℕ) (xs : List (List ℕ)) → list_any (bytes_eq k) xs ≡ list_any (is_same_key k) xs
+any_turned k [] = refl
+any_turned k (x ∷ xs) = ap₂ (λ (a b : Bool). a || b) (turned k x) (any_turned k xs)
+
+-- ---- keys part by part
+
+-- the keys of the first part are marked, and those of the others are to be
+pub part_marked : (f : List ℕ → Bool) (rest part others : List (List ℕ)) (old new : Bool) → rest ≡ part ++ others →
+    new ≡ (list_any f part || old) → (list_any f others || new) ≡ (list_any f rest || old)
+part_marked f rest part others old new h n =
+    ap (λ (b : Bool). list_any f others || b) n
+    ∙ or_swap (list_any f others) (list_any f part) old
+    ∙ sym (or_assoc (list_any f part) (list_any f others) old)
+    ∙ ap (λ (b : Bool). b || old) (sym (ap (list_any f) h ∙ list_any-append f part others))
 
 -- ---- booleans
 

@@ -4,7 +4,7 @@ use Rattle.std.specs.List.{AllByRecursion, list_any}
 use Rattle.index_choice.specs.dir_entry.Entry.{KeyedAttribute}
 use Rattle.index_choice.specs.declared.kinds.Kinds.{Kinds}
 use Rattle.dir_index.specs.declared.posting.Posting.{Posting}
-use Rattle.dir_index.specs.Postings.{Indexed, IsRising, is_of, postings_of}
+use Rattle.dir_index.specs.Postings.{Indexed, IsRising, is_of, has_type, some_key, postings_of}
 use Rattle.dir_index.specs.ListKeys.{key_of}
 use Rattle.dir_index.specs.Stored.{ListRows, list_at}
 
@@ -47,6 +47,9 @@ of_type t e = filter (is_of t) e
 abbrev pub is_one_of : List ℕ → ℕ → Bool
 is_one_of types t = list_any (nat_eq t) types
 
--- two entries have the same attributes of each type but these
-abbrev pub AreSameBut : List ℕ → List KeyedAttribute → List KeyedAttribute → Type 0
-AreSameBut types before after = (t : ℕ) → is_one_of types t ≡ false → of_type t before ≡ of_type t after
+-- Two entries have the same attributes of each type but these and those of some named values. Of a type of the latter
+-- alone they may differ in the named values: a test that no key of these passes is passed by keys of both or of neither.
+pub record AreSameBut (types : List ℕ) (named before after : List KeyedAttribute) : Type 0 where
+  pub attributes : (t : ℕ) → is_one_of types t ≡ false → has_type t named ≡ false → of_type t before ≡ of_type t after
+  pub keys : (t : ℕ) (f : List ℕ → Bool) → is_one_of types t ≡ false → some_key t f named ≡ false →
+      some_key t f before ≡ some_key t f after

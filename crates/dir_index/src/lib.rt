@@ -9,8 +9,9 @@
 //! postings are computed as a set (`marks`). Where its attributes change (`moves`), only postings that may differ are
 //! looked at: those of types that one side lacks, and of keys that the two sides don't have in common at the front or
 //! at the end (`apart`, `key_changes`). Each of them is looked for on both sides (`membership`). A change that says which
-//! types it touches leaves the keys of all others unread (`touched`). A range is a walk from its first key to its last
-//! (`ranges`). Plans ask the trait `PostingLists`.
+//! types it touches leaves the keys of all others unread, and of a type of which it names values it marks these values'
+//! keys without a comparison (`touched`). A range is a walk from its first key to its last (`ranges`). Plans ask the
+//! trait `PostingLists`.
 //!
 //! Proved: the lists of presence, equality, order and runs of three octets are those of the entries, after each change;
 //! out of memory, nothing has changed (`Postings::add`, `remove`, `replace`, `push_range`), or nothing is left of lists

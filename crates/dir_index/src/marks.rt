@@ -1,16 +1,15 @@
 // The postings that list an entry. Made of an index choice and attributes, as a set of keys.
 
-ghost use Rattle.std.specs.Prelude.{◌≡◌, ◌||◌, ◌&&◌, ◌∷◌, [], IfOk, OnOk};
+ghost use Rattle.std.specs.Prelude.{◌≡◌, ◌||◌, ◌&&◌, ◌∷◌, [], nat_lt, length, IfOk, OnOk};
 ghost use Rattle.std.specs.List.{list_any};
 ghost use Rattle.dir_index.specs.declared.posting.Posting.{Posting};
-ghost use Rattle.dir_index.specs.Postings.{has_type as is_type_in};
 ghost use Rattle.dir_index.specs.ListKeys.{key_of, is_same_list};
 ghost use Rattle.dir_index.specs.Ordered.{type_of};
 ghost use Rattle.dir_index.specs.private.Touched.{is_touched as is_touched_by};
 ghost use Rattle.dir_index.specs.private.Marked.{has_posting, lists_entry, is_of_key, is_first_run, is_run_of, is_from_key, is_from_presence, makes_several, is_from_several, is_from_attribute};
 
 use crate::list_key::{ListKey, PRESENCE, RUN, SEVERAL, VALUE};
-use crate::touched::{Touched, is_touched};
+use crate::touched::{Touched, has_type, is_touched};
 use index_choice::{Attribute, Indexes, Key, Kinds, Octets, TypeId};
 use std::alloc::{AllocError, Global};
 use std::collections::BTreeSet;
@@ -101,7 +100,7 @@ fn mark_value(
 }
 
 /// Puts the postings of a key to the others, as the kinds of its type ask.
-fn mark_key(
+pub fn mark_key(
     alloc: Global,
     marks: &mut Marks,
     kinds: Kinds,
@@ -120,8 +119,8 @@ fn mark_key(
     Ok(())
 }
 
-/// Puts the postings of an attribute's keys to the others.
-pub fn mark_keys(
+/// Puts the postings of keys to the others.
+fn mark_keys(
     alloc: Global,
     marks: &mut Marks,
     kinds: Kinds,
@@ -133,6 +132,25 @@ pub fn mark_keys(
 {
     for key in keys {
         mark_key(alloc, marks, kinds, type_id, key)?;
+    }
+    Ok(())
+}
+
+/// Puts the postings of an attribute's keys to the others.
+pub fn mark_keys_of(
+    alloc: Global,
+    marks: &mut Marks,
+    kinds: Kinds,
+    attribute: &Attribute,
+) -> Result<(), AllocError>
+    ensures { OnOk result ((p : Posting) → has_posting marks.new.keys p ≡
+        (list_any (is_from_key kinds attribute.now.kind p) attribute.now.keys || has_posting marks.old.keys p)) }
+{
+    let type_id = attribute.type_id();
+    let mut rest = attribute.parts();
+    while let Some((part, others)) = rest.split_first() {
+        mark_keys(alloc, marks, kinds, type_id, part.keys)?;
+        rest = others;
     }
     Ok(())
 }
@@ -154,13 +172,20 @@ pub fn mark_presence(
     Ok(())
 }
 
-/// Whether there is an attribute of the type.
-pub fn has_type(attributes: &[Attribute], type_id: TypeId) -> bool
-    ensures { result ≡ is_type_in type_id attributes.now }
+/// Whether an attribute has several keys.
+fn has_several_keys(attribute: &Attribute) -> bool
+    ensures { result ≡ nat_lt 1 (length attribute.now.keys) }
 {
-    attributes
-        .iter()
-        .any(|attribute| attribute.type_id() == type_id)
+    let mut count: usize = 0;
+    let mut rest = attribute.parts();
+    while let Some((part, others)) = rest.split_first() {
+        if part.keys.len() > 1 - count {
+            return true;
+        }
+        count += part.keys.len();
+        rest = others;
+    }
+    false
 }
 
 /// Whether an attribute before others makes the entry one that may have several values of its
@@ -168,7 +193,7 @@ pub fn has_type(attributes: &[Attribute], type_id: TypeId) -> bool
 pub fn may_have_several(attribute: &Attribute, others: &[Attribute]) -> bool
     ensures { result ≡ makes_several attribute.now others.now }
 {
-    attribute.keys().len() > 1 || has_type(others, attribute.type_id())
+    has_several_keys(attribute) || has_type(others, attribute.type_id())
 }
 
 /// Puts the posting of several values to the others, if there may be several, and an index in order.
@@ -205,7 +230,7 @@ fn mark_attribute(
     let kinds = indexes.kinds(type_id);
     mark_presence(alloc, marks, kinds, type_id)?;
     mark_several(alloc, marks, kinds, attribute, others)?;
-    mark_keys(alloc, marks, kinds, type_id, attribute.keys())
+    mark_keys_of(alloc, marks, kinds, attribute)
 }
 
 /// The postings of types that a change may touch that list the entry of these attributes.

@@ -9,7 +9,8 @@ ghost use Rattle.dir_index.specs.ListKeys.{key_of, is_same_list};
 ghost use Rattle.dir_index.specs.private.Marked.{has_posting, lists_entry, lists_by};
 
 use crate::list_key::{ListKey, PRESENCE, SEVERAL, VALUE};
-use crate::marks::{Marks, has_type, may_have_several};
+use crate::marks::{Marks, may_have_several};
+use crate::touched::has_type;
 use index_choice::{Attribute, Indexes, Key, Shared, TypeId};
 use std::alloc::{AllocError, Global};
 use std::collections::BTreeSet;
@@ -28,11 +29,12 @@ fn has_several(attributes: &[Attribute], type_id: TypeId) -> bool
     false
 }
 
-/// Whether one of the keys has these octets.
-fn is_key_among(octets: &[u8], keys: &[Key]) -> bool
-    ensures { result ≡ list_any (is_same_key octets.now) keys.now }
+/// Whether one of an attribute's keys has these octets.
+#[tactic(auto, using(crate::proofs::Changed::any_turned))]
+fn is_key_of(octets: &[u8], attribute: &Attribute) -> bool
+    ensures { result ≡ list_any (is_same_key octets.now) attribute.now.keys }
 {
-    keys.iter().any(|key| key.as_octets() == octets)
+    attribute.has(true, octets)
 }
 
 /// Whether some value of the type has a key of these octets.
@@ -40,7 +42,7 @@ fn has_key(attributes: &[Attribute], type_id: TypeId, octets: &[u8]) -> bool
     ensures { result ≡ some_key type_id (is_same_key octets.now) attributes.now }
 {
     attributes.iter().any(|attribute| attribute.type_id() == type_id
-        && is_key_among(octets, attribute.keys()))
+        && is_key_of(octets, attribute))
 }
 
 /// Whether octets stand in others, one after the other.
@@ -64,12 +66,26 @@ fn is_run_among(run: &[u8], keys: &[Key]) -> bool
     keys.iter().any(|key| stands_in(run, key.as_octets()))
 }
 
+/// Whether octets stand in one of an attribute's keys.
+fn is_run_of(run: &[u8], attribute: &Attribute) -> bool
+    ensures { result ≡ list_any (is_within run.now) attribute.now.keys }
+{
+    let mut rest = attribute.parts();
+    while let Some((part, others)) = rest.split_first() {
+        if is_run_among(run, part.keys) {
+            return true;
+        }
+        rest = others;
+    }
+    false
+}
+
 /// Whether octets stand in the key of some value of the type.
 fn has_run(attributes: &[Attribute], type_id: TypeId, run: &[u8]) -> bool
     ensures { result ≡ some_key type_id (is_within run.now) attributes.now }
 {
     attributes.iter().any(|attribute| attribute.type_id() == type_id
-        && is_run_among(run, attribute.keys()))
+        && is_run_of(run, attribute))
 }
 
 /// Whether the list of a key lists the entry of these attributes.
@@ -87,7 +103,8 @@ fn is_listed(indexes: &Indexes, attributes: &[Attribute], key: &ListKey) -> bool
     }
 }
 
-/// Those of the marks whose postings list the entry of these attributes. Each costs a look at the keys of its type.
+/// Those of the marks whose postings list the entry of these attributes. Each costs a look for a key among those of its
+/// type, or at the runs of all of these.
 pub fn marks_within(
     alloc: Global,
     indexes: &Indexes,

@@ -43,7 +43,7 @@ fn all_moves(
 
 /// The postings before and after a change of attributes, of which those that stay as they are may be left out:
 /// attributes that are the same on both sides, and keys that both have at the front or at the end, bring none.
-/// Keys of types that aren't touched aren't looked at.
+/// Keys of types that aren't touched aren't looked at, and of named values these are looked for.
 pub fn moves_between(
     alloc: Global,
     indexes: &Indexes,

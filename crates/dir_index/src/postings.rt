@@ -186,23 +186,26 @@ impl Postings {
         self.changed_to(number, &Touched::All, before, after)
     }
 
-    /// The same after a change of its attributes of some types: those of other types are the same, and aren't looked at.
+    /// The same after a change of its attributes of some types, and of some values that are named, of which it has more
+    /// or fewer. Those of other types are the same and aren't looked at; of the named values' keys alone it is asked
+    /// whether it has them.
     pub fn replaced_in(
         self,
         number: u64,
         types: &[TypeId],
+        named: &[Attribute],
         before: &Entry,
         after: &Entry,
     ) -> Result<Postings, AllocError>
-        requires same { AreSameBut types.now before.now after.now }
+        requires same { AreSameBut types.now named.now before.now after.now }
         ensures ok { IfOk result (λ p. (es : List Indexed) → AreOf self es → HasEntry es number before.now →
             AreOf p (with_attributes number after.now es)) }
         ensures indexes { IfOk result (λ p. p.indexes ≡ self.indexes) }
     {
-        self.changed_to(number, &Touched::These(types), before, after)
+        self.changed_to(number, &Touched::These(types, named), before, after)
     }
 
-    /// The lists with an entry as it is after a change that touches its attributes of these types alone.
+    /// The lists with an entry as it is after a change that touches these of its attributes alone.
     fn changed_to(
         self,
         number: u64,

@@ -199,12 +199,26 @@ fn is_some_within(range: &Range, keys: &[Key]) -> bool
     keys.iter().any(|key| is_within(range, key.as_octets()))
 }
 
+/// Whether one of an attribute's keys stands in a range.
+fn has_within(range: &Range, attribute: &Attribute) -> bool
+    ensures { result ≡ list_any (in_range range.now) attribute.now.keys }
+{
+    let mut rest = attribute.parts();
+    while let Some((part, others)) = rest.split_first() {
+        if is_some_within(range, part.keys) {
+            return true;
+        }
+        rest = others;
+    }
+    false
+}
+
 /// Whether attributes have a value in a range.
 fn have_in_range(range: &Range, attributes: &[Attribute]) -> bool
     ensures { result ≡ entry_has_in_range range.now attributes.now }
 {
     attributes.iter().any(|attribute| attribute.type_id() == range.type_id
-        && is_some_within(range, attribute.keys()))
+        && has_within(range, attribute))
 }
 
 /// Whether an entry is one of a range's: it has a value there, and the range's type has an index in

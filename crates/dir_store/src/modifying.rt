@@ -11,15 +11,17 @@ ghost use Rattle.dir_store.specs.private.View.{kept_view, RefusedWith};
 use crate::fault::{StoreError, refused_attributes};
 use crate::finding::asked_entry;
 use crate::names::{asked_name, own_rdn};
-use entry_updates::{Change, ModifyRequest, entry_changed, touched_types};
-use indexed_tree::{Entry, Schema, StoredEntry, Tree, TypeId};
+use entry_updates::{
+    Change, ModifyRequest, TouchedAttributes, entry_changed, tests_are_items, touched_attributes,
+};
+use indexed_tree::{Entry, Schema, StoredEntry, Tree};
 use std::alloc::Global;
 
-/// A number, and what its entry is changed to; what the entry has of other types than these is the same.
+/// A number, what its entry is changed to, and what is touched: all else is the same.
 #[derive(Drop)]
 pub struct ChangedEntry {
     pub number: u64,
-    pub types: Vec<TypeId>,
+    pub touched: TouchedAttributes,
     pub entry: Entry,
 }
 
@@ -36,17 +38,19 @@ fn change(
         (named (entered_of number held.now)) ≡ Ok (kept_view k)) }
     ensures number { IfOk result (λ k. k.number ≡ number) }
     ensures keyed { IfOk result (λ k. IsKeyedBy schema.now k.entry) }
-    ensures same { IfOk result (λ k. AreSameBut k.types.items held.now.entry.now k.entry) }
+    ensures same { IfOk result (λ k. AreSameBut k.touched.types.items k.touched.named.items held.now.entry.now
+        k.entry) }
     ensures refused { IfErr result (λ e. RefusedWith e (change_of schema.now (map change_view changes.now)
         (named (entered_of number held.now)))) }
 {
     let before: &Entry = held.entry;
     match entry_changed(alloc, schema, own_rdn(held.name.rdns()), changes, before) {
         Ok(entry) => {
-            let types = touched_types(alloc, schema, changes, before)?;
+            let touched = touched_attributes(alloc, schema, changes, before)?;
+            tests_are_items();
             Ok(ChangedEntry {
                 number,
-                types,
+                touched,
                 entry,
             })
         }
@@ -65,7 +69,8 @@ pub fn asked_change(
     ensures ok { IfOk result (λ k. change_asked (directory schema.now tree.now) (modify_view request.now) ≡
         Ok (kept_view k)) }
     ensures keyed { IfOk result (λ k. IsKeyedBy schema.now k.entry) }
-    ensures same { IfOk result (λ k. IsSameBut k.types.items k.number tree.now.entries k.entry) }
+    ensures same { IfOk result (λ k. IsSameBut k.touched.types.items k.touched.named.items k.number
+        tree.now.entries k.entry) }
     ensures refused { IfErr result (λ e. RefusedWith e (change_asked (directory schema.now tree.now)
         (modify_view request.now))) }
 {

@@ -212,12 +212,17 @@ impl Store {
             Ok(changed) => {
                 let ChangedEntry {
                     number,
-                    types,
+                    touched,
                     entry,
                 } = changed;
                 let entry = SharedEntry::new(alloc, entry)?;
                 let Store { schema, held } = self;
-                let held = held.replaced_in(number, types.as_slice(), entry)?;
+                let held = held.replaced_in(
+                    number,
+                    touched.types.as_slice(),
+                    touched.named.as_slice(),
+                    entry,
+                )?;
                 Ok(Outcome::Made(Store { schema, held }))
             }
             Err(error) => self.refused(error),

@@ -15,8 +15,6 @@ use Rattle.entry_changes.specs.ldap_dn.Names.{TypeAndValue}
 use Rattle.ldap_op.specs.ldap_parts.UpdateValues.{ChangeValue}
 use Rattle.ldap_op.specs.ldap_parts.declared.modify.ModifyOperation.{ModifyOperation}
 use Rattle.ldap_op.specs.ldap_parts.declared.modify.ModifyOperation.TheVariants.{Add, Delete, Replace, Increment}
-use Rattle.ldap_op.specs.ldap_parts.declared.modify.Change.{Change}
-use Rattle.ldap_op.specs.ldap_parts.UpdateView.{change_view}
 use Rattle.entry_changes.specs.dir_entry.Entry.{AttributeModel, KeyedAttribute, shown, attributes_of, IsKeyedBy, are_in_syntax}
 use Rattle.entry_changes.specs.dir_entry.ldap_match.Keyed.{AreKeysBy, AreKeysOf, key_at}
 use Rattle.entry_changes.specs.dir_entry.Values.{has_repeats}
@@ -27,14 +25,15 @@ use Rattle.entry_updates.specs.Classes.{is_object_class, with_some, completed, m
 use Rattle.entry_updates.specs.Structural.{changes_class, kept_completed}
 use Rattle.entry_updates.specs.Finishing.{kept}
 use Rattle.entry_updates.specs.Modifying.{is_increment, with_change, all_changed, attributes_changed}
-use Rattle.entry_updates.specs.Touched.{of_type, types_named, is_touched, types_unruled, types_touched}
+use Rattle.entry_updates.specs.private.Touched.{of_type, types_named, is_touched}
+use Rattle.entry_updates.specs.Touched.{is_by_values, type_whole, values_named, types_whole, all_values_named, types_unruled, types_touched}
 
 -- ---- an attribute in another's place
 
-then_one : (n : ℕ) → 1 + n ≡ suc n
+pub then_one : (n : ℕ) → 1 + n ≡ suc n
 then_one n = omega arith
 
-suc_one : (n : ℕ) → suc n + 1 ≡ suc (n + 1)
+pub suc_one : (n : ℕ) → suc n + 1 ≡ suc (n + 1)
 suc_one n = omega arith
 
 others_stay : {A : Type 0} (f g : A → Bool) (w : List A) → ((x : A) → g x ≡ true → f x ≡ false) → filter f w ≡ [] →
@@ -72,24 +71,38 @@ values_stay t u vs e h = others_stay (λ (a : AttributeModel). nat_eq a.kind u) 
 
 -- ---- results
 
+-- what is made is the same to a look at an entry
+abbrev pub Keeps : {A : Type 0} → (List AttributeModel → A) → List AttributeModel → Result (List AttributeModel) ℕ →
+    Type 0
+Keeps look e r = IfOk r (λ d. look d ≡ look e)
+
+pub otherwise : {A : Type 0} (look : List AttributeModel → A) (b : Bool) (code : ℕ) (e : List AttributeModel)
+    (r : Result (List AttributeModel) ℕ) → Keeps look e r → Keeps look e (refuse b code r)
+otherwise look true code e r h = tt
+otherwise look false code e r h = h
+
+pub go_on : {A : Type 0} (look : List AttributeModel → A) (e : List AttributeModel)
+    (r : Result (List AttributeModel) ℕ) (next : List AttributeModel → Result (List AttributeModel) ℕ) →
+    Keeps look e r → ((d : List AttributeModel) → Keeps look d (next d)) → Keeps look e (and_then r next)
+go_on look e (Err code) next h k = tt
+go_on look e (Ok d) next h k = by (next d) (k d)
+  where
+    by : (r : Result (List AttributeModel) ℕ) → Keeps look d r → Keeps look e r
+    by (Err code) g = tt
+    by (Ok f) g = g ∙ h
+
 -- what is made has the same attributes of a type
-abbrev Stays : ℕ → List AttributeModel → Result (List AttributeModel) ℕ → Type 0
-Stays u e r = IfOk r (λ d. of_type u d ≡ of_type u e)
+abbrev pub Stays : ℕ → List AttributeModel → Result (List AttributeModel) ℕ → Type 0
+Stays u e r = Keeps (of_type u) e r
 
 unless : (b : Bool) (code u : ℕ) (e : List AttributeModel) (r : Result (List AttributeModel) ℕ) → Stays u e r →
     Stays u e (refuse b code r)
-unless true code u e r h = tt
-unless false code u e r h = h
+unless b code u e r h = otherwise (of_type u) b code e r h
 
 onwards : (u : ℕ) (e : List AttributeModel) (r : Result (List AttributeModel) ℕ)
     (next : List AttributeModel → Result (List AttributeModel) ℕ) → Stays u e r →
     ((d : List AttributeModel) → Stays u d (next d)) → Stays u e (and_then r next)
-onwards u e (Err code) next h k = tt
-onwards u e (Ok d) next h k = by (next d) (k d)
-  where
-    by : (r : Result (List AttributeModel) ℕ) → Stays u d r → Stays u e r
-    by (Err code) g = tt
-    by (Ok f) g = g ∙ h
+onwards u e r next h k = go_on (of_type u) e r next h k
 
 -- ---- changes
 
@@ -120,25 +133,25 @@ replaced_stays s t u vs e h =
     unless (not (are_in_syntax s t vs)) 21 u e (refuse (has_repeats s t vs) 20 made) (unless (has_repeats s t vs) 20 u
     e made (values_stay t u vs e h))
 
-change_stays : (s : SchemaModel) (o : ModifyOperation) (t u : ℕ) (vs : List (List ℕ)) (e : List AttributeModel) →
+pub change_stays : (s : SchemaModel) (o : ModifyOperation) (t u : ℕ) (vs : List (List ℕ)) (e : List AttributeModel) →
     nat_eq t u ≡ false → Stays u e (with_change s o t vs e)
 change_stays s Add t u vs e h = added_stays s t u vs e h
 change_stays s Delete t u vs e h = deleted_stays s t u vs e h
 change_stays s Replace t u vs e h = replaced_stays s t u vs e h
 change_stays s Increment t u vs e h = tt
 
-turned : (t u : ℕ) → nat_eq u t ≡ false → nat_eq t u ≡ false
+pub turned : (t u : ℕ) → nat_eq u t ≡ false → nat_eq t u ≡ false
 turned t u h = by (nat_eq t u) refl
   where
     by : (b : Bool) → nat_eq t u ≡ b → b ≡ false
     by false e = refl
     by true e = sym (eq-eqb u t (sym (eqb-true t u e))) ∙ h
 
-left_off : (a b : Bool) → (a || b) ≡ false → a ≡ false
+pub left_off : (a b : Bool) → (a || b) ≡ false → a ≡ false
 left_off true b h = h
 left_off false b h = refl
 
-right_off : (a b : Bool) → (a || b) ≡ false → b ≡ false
+pub right_off : (a b : Bool) → (a || b) ≡ false → b ≡ false
 right_off true b h = let y : true ≡ false = h in cc
 right_off false b h = h
 
@@ -186,7 +199,7 @@ completed_stays s u (a ∷ e) h = by (is_object_class s a.kind) refl (completed_
         ∙ sym (ap (λ (b : Bool). cond b (a ∷ of_type u e) (of_type u e)) other)
     by false o ih = ap (λ (l : List AttributeModel). cond (nat_eq a.kind u) (a ∷ l) l) ih
 
-kept_stays : (s : SchemaModel) (rdn : List TypeAndValue) (before : List AttributeModel) (u : ℕ)
+pub kept_stays : (s : SchemaModel) (rdn : List TypeAndValue) (before : List AttributeModel) (u : ℕ)
     (e : List AttributeModel) → is_object_class s u ≡ false → Stays u e (kept s rdn before e)
 kept_stays s rdn before u e h =
     let d = completed s e in
@@ -205,47 +218,7 @@ attributes_stay s rdn cs e u h =
     (all_stay s cs u e (right_off (is_object_class s u) (list_any (nat_eq u) (types_named s cs)) h))
     (λ d. kept_stays s rdn e u d (left_off (is_object_class s u) (list_any (nat_eq u) (types_named s cs)) h))
 
--- ---- the types that are touched, one after the other
-
-named_more : (s : SchemaModel) (cs : List ChangeValue) (c : ChangeValue) → types_named s (cs ++ c ∷ []) ≡ types_named s
-    cs ++ with_some (find s c.modification.description) []
-named_more s [] c = refl
-named_more s (x ∷ cs) c = by (find s x.modification.description) (named_more s cs c)
-  where
-    by : (o : Option ℕ) → types_named s (cs ++ c ∷ []) ≡ types_named s cs ++ with_some (find s
-        c.modification.description) [] → with_some o (types_named s (cs ++ c ∷ [])) ≡ with_some o (types_named s cs) ++
-        with_some (find s c.modification.description) []
-    by None ih = ih
-    by (Some t) ih = ap (λ (l : List ℕ). t ∷ l) ih
-
--- the type that one more change names
-named_step : (s : SchemaModel) (cs : List Change) (i : ℕ) (c : Change) → i < length cs → c ≡ get_or cs i c →
-    types_named s (map change_view (take (i + 1) cs)) ≡ types_named s (map change_view (take i cs)) ++ with_some
-    (find s (change_view c).modification.description) []
-named_step s cs i c h is =
-    ap (λ (l : List Change). types_named s (map change_view l)) (take_more cs i c h
-    ∙ ap (λ (x : Change). take i cs ++ x ∷ []) (sym is))
-    ∙ ap (types_named s) (map-append change_view (take i cs) (c ∷ []))
-    ∙ named_more s (map change_view (take i cs)) (change_view c)
-
-pub named_pushed : (s : SchemaModel) (cs : List Change) (i : ℕ) (c : Change) (t : ℕ) (old items new : List ℕ) →
-    i < length cs → c ≡ get_or cs i c → find s (change_view c).modification.description ≡ Some t →
-    items ≡ old ++ types_named s (map change_view (take i cs)) → new ≡ items ++ t ∷ [] →
-    new ≡ old ++ types_named s (map change_view (take (i + 1) cs))
-named_pushed s cs i c t old items new h is found so_far pushed =
-    pushed ∙ ap (λ (l : List ℕ). l ++ t ∷ []) so_far
-    ∙ append_assoc old (types_named s (map change_view (take i cs))) (t ∷ [])
-    ∙ ap (λ (l : List ℕ). old ++ l) (sym (named_step s cs i c h is
-    ∙ ap (λ (o : Option ℕ). types_named s (map change_view (take i cs)) ++ with_some o []) found))
-
-pub named_passed : (s : SchemaModel) (cs : List Change) (i : ℕ) (c : Change) (old items : List ℕ) → i < length cs →
-    c ≡ get_or cs i c → find s (change_view c).modification.description ≡ None →
-    items ≡ old ++ types_named s (map change_view (take i cs)) →
-    items ≡ old ++ types_named s (map change_view (take (i + 1) cs))
-named_passed s cs i c old items h is found so_far =
-    so_far ∙ ap (λ (l : List ℕ). old ++ l) (sym (named_step s cs i c h is
-    ∙ ap (λ (o : Option ℕ). types_named s (map change_view (take i cs)) ++ with_some o []) found
-    ∙ append-nil (types_named s (map change_view (take i cs)))))
+-- ---- types without a rule, one after the other
 
 unruled_more : (s : SchemaModel) (e : List AttributeModel) (a : AttributeModel) → types_unruled s (e ++ a ∷ []) ≡
     types_unruled s e ++ cond (is_some (equality_of s a.kind)) [] (a.kind ∷ [])
@@ -330,7 +303,7 @@ same_attribute x y k v e =
     ∙ ap (λ (l : List (List ℕ)). let z : KeyedAttribute = record { kind = y.kind; values = l; keys = x.keys } in z) v
     ∙ ap (λ (l : List (List ℕ)). let z : KeyedAttribute = record { kind = y.kind; values = y.values; keys = l } in z) e
 
-keys_by : (s : SchemaModel) (k : ℕ) (values keys : List (List ℕ)) (r : Rule) → equality_of s k ≡ Some r →
+pub keys_by : (s : SchemaModel) (k : ℕ) (values keys : List (List ℕ)) (r : Rule) → equality_of s k ≡ Some r →
     AreKeysOf s k values keys → map (key_at s r) values ≡ map Some keys
 keys_by s k values keys r e h = subst (λ (o : Option Rule). AreKeysBy s o values keys) e h
 
@@ -385,7 +358,7 @@ none_unruled s u (a ∷ e) none h = by (λ k. none_unruled s u e none k) (nat_eq
 
 -- ---- what isn't among the types that are touched
 
-not_class : (s : SchemaModel) (u : ℕ) (ts : List ℕ) → list_any (nat_eq u) (with_some (object_class_type s) ts) ≡ false →
+pub not_class : (s : SchemaModel) (u : ℕ) (ts : List ℕ) → list_any (nat_eq u) (with_some (object_class_type s) ts) ≡ false →
     (is_object_class s u ≡ false) × (list_any (nat_eq u) ts ≡ false)
 not_class s u ts h = by (object_class_type s) h
   where
@@ -398,23 +371,54 @@ not_class s u ts h = by (object_class_type s) h
           k,
     )
 
--- an entry with its keys, of a type that isn't touched, as it is behind a modify
-pub keyed_stay : (s : SchemaModel) (rdn : List TypeAndValue) (cs : List ChangeValue) (b a : List KeyedAttribute) →
-    IsKeyedBy s b → IsKeyedBy s a → attributes_changed s rdn cs (attributes_of b) ≡ Ok (attributes_of a) →
+-- types that changes name are touched whole, or are those of named values
+named_covered : (s : SchemaModel) (u : ℕ) (cs : List ChangeValue) → list_any (nat_eq u) (types_whole s cs) ≡ false →
+    has_type u (all_values_named s cs) ≡ false → list_any (nat_eq u) (types_named s cs) ≡ false
+named_covered s u [] h k = refl
+named_covered s u (c ∷ cs) h k = by (find s c.modification.description) (named_covered s u cs) h k
+  where
+    more : (t : ℕ) (b : Bool) → (list_any (nat_eq u) (types_whole s cs) ≡ false → has_type u (all_values_named s cs) ≡
+        false → list_any (nat_eq u) (types_named s cs) ≡ false) → list_any (nat_eq u) (cond b [] (t ∷ []) ++ types_whole
+        s cs) ≡ false → has_type u (cond b (record { kind = t; values = c.modification.values } ∷ []) [] ++
+        all_values_named s cs) ≡ false → list_any (nat_eq u) (t ∷ types_named s cs) ≡ false
+    more t true ih h k =
+        ap₂ (λ (x y : Bool). x || y) (turned u t (left_off (nat_eq t u) (has_type u (all_values_named s cs)) k))
+        (ih h (right_off (nat_eq t u) (has_type u (all_values_named s cs)) k))
+    more t false ih h k =
+        ap₂ (λ (x y : Bool). x || y) (left_off (nat_eq u t) (list_any (nat_eq u) (types_whole s cs)) h)
+        (ih (right_off (nat_eq u t) (list_any (nat_eq u) (types_whole s cs)) h) k)
+
+    by : (o : Option ℕ) → (list_any (nat_eq u) (types_whole s cs) ≡ false → has_type u (all_values_named s cs) ≡
+        false → list_any (nat_eq u) (types_named s cs) ≡ false) → list_any (nat_eq u) (type_whole s c o ++ types_whole s
+        cs) ≡ false → has_type u (values_named s c o ++ all_values_named s cs) ≡ false →
+        list_any (nat_eq u) (with_some o (types_named s cs)) ≡ false
+    by None ih h k = ih h k
+    by (Some t) ih h k = more t (is_by_values s c t) ih h k
+
+pub type_shown : (u : ℕ) (e : List KeyedAttribute) → has_type u (attributes_of e) ≡ list_any (λ a. nat_eq a.kind u) e
+type_shown u [] = refl
+type_shown u (a ∷ e) = ap (λ (b : Bool). nat_eq a.kind u || b) (type_shown u e)
+
+-- An entry with its keys, of a type that isn't touched whole and of which no value is named, as it is behind a modify.
+pub keyed_stay : (s : SchemaModel) (rdn : List TypeAndValue) (cs : List ChangeValue) (named b a : List KeyedAttribute) →
+    attributes_of named ≡ all_values_named s cs → IsKeyedBy s b → IsKeyedBy s a →
+    attributes_changed s rdn cs (attributes_of b) ≡ Ok (attributes_of a) →
     (u : ℕ) → list_any (nat_eq u) (types_touched s cs (attributes_of b)) ≡ false →
+    list_any (λ x. nat_eq x.kind u) named ≡ false →
     filter (λ x. nat_eq x.kind u) b ≡ filter (λ x. nat_eq x.kind u) a
-keyed_stay s rdn cs b a h k made u none =
-    let named = types_named s cs in
+keyed_stay s rdn cs named b a values h k made u none beside =
+    let whole = types_whole s cs in
     let unruled = types_unruled s (attributes_of b) in
-    let c = not_class s u (named ++ unruled) none in
-    let both = sym (list_any-append (nat_eq u) named unruled) ∙ c.1 in
-    let free : is_touched s cs u ≡ false = ap₂ (λ (x y : Bool). x || y) c.0 (left_off (list_any (nat_eq u) named)
-    (list_any (nat_eq u) unruled) both) in
+    let c = not_class s u (whole ++ unruled) none in
+    let both = sym (list_any-append (nat_eq u) whole unruled) ∙ c.1 in
+    let apart = named_covered s u cs (left_off (list_any (nat_eq u) whole) (list_any (nat_eq u) unruled) both)
+    (sym (ap (has_type u) values) ∙ type_shown u named ∙ beside) in
+    let free : is_touched s cs u ≡ false = ap₂ (λ (x y : Bool). x || y) c.0 apart in
     let stays = subst (λ (r : Result (List AttributeModel) ℕ). IfOk r (λ d. of_type u d ≡ of_type u (attributes_of b)))
     made (attributes_stay s rdn cs (attributes_of b) u free) in
     let same : attributes_of (filter (λ x. nat_eq x.kind u) b) ≡ attributes_of (filter (λ x. nat_eq x.kind u) a) =
     sym (shown_of u b) ∙ sym stays ∙ shown_of u a in
-    by (equality_of s u) refl (right_off (list_any (nat_eq u) named) (list_any (nat_eq u) unruled) both) same
+    by (equality_of s u) refl (right_off (list_any (nat_eq u) whole) (list_any (nat_eq u) unruled) both) same
   where
     by : (o : Option Rule) → equality_of s u ≡ o → list_any (nat_eq u) (types_unruled s (attributes_of b)) ≡ false →
         attributes_of (filter (λ x. nat_eq x.kind u) b) ≡ attributes_of (filter (λ x. nat_eq x.kind u) a) →

@@ -5,6 +5,7 @@ pub mod Touched
 pub mod Refused
 pub mod Classes
 pub mod Structural
+pub mod private
 -- what layers above name of the crates below
 pub use Rattle.ldap_op.specs.ldap_parts as ldap_parts
 pub use Rattle.ldap_op.specs as ldap_op

@@ -22,7 +22,7 @@ fn complete_attribute(
     if attribute.type_id() != schema.object_class_type() {
         return Ok(attribute);
     }
-    let names = missing_names(alloc, schema, attribute.values())?;
+    let names = missing_names(alloc, schema, &attribute)?;
     match attribute.with_values(alloc, schema, names) {
         Ok(longer) => Ok(longer),
         Err(ValueError::NoMemory) => Err(AllocError),

@@ -1,8 +1,8 @@
 // Decides whether an entry's attributes obey its classes.
 
-ghost use Rattle.std.specs.Prelude.{◌≡◌, IfOk, map, is_some};
+ghost use Rattle.std.specs.Prelude.{◌≡◌, ◌&&◌, [], IfOk, map, is_some, MatchOption};
 ghost use Rattle.dir_entry.specs.Entry.{attributes_of, shown};
-ghost use Rattle.entry_updates.specs.Classes.{has_single_value as has_a_single_value, has_single_values as has_only_single_values, is_structural as is_structural_class, structural_of as structural_classes, is_one_chain as is_a_chain, has_required as has_all_required, is_allowed_by as is_type_allowed_by, is_allowed as is_type_allowed, are_classes as are_names_of_classes, class_values as values_of_object_class, obeys as obeys_all, obeys_classes as entry_obeys_classes, is_object_class, required as types_required, allowed as types_allowed};
+ghost use Rattle.entry_updates.specs.Classes.{classes_named as classes_that_values_name, has_single_value as has_a_single_value, has_single_values as has_only_single_values, is_structural as is_structural_class, structural_of as structural_classes, is_one_chain as is_a_chain, has_required as has_all_required, is_allowed_by as is_type_allowed_by, is_allowed as is_type_allowed, are_classes as are_names_of_classes, class_values as values_of_object_class, obeys as obeys_all, obeys_classes as entry_obeys_classes, is_object_class, required as types_required, allowed as types_allowed};
 ghost use Rattle.dir_entry.specs.ldap_schema.Schema.{class_named};
 ghost use Rattle.dir_entry.specs.ldap_schema.Superclasses.{is_among};
 ghost use Rattle.std.specs.List.{list_all, list_any};
@@ -17,7 +17,7 @@ fn has_single_value(schema: &Schema, attribute: &Attribute) -> bool
 {
     match schema.attribute_type(attribute.type_id()) {
         Some(attribute_type) => {
-            !attribute_type.is_single_value() || attribute.values().len() < 2
+            !attribute_type.is_single_value() || attribute.len() < 2
         }
         None => true,
     }
@@ -182,7 +182,7 @@ fn is_class(schema: &Schema, value: &[u8]) -> bool
 }
 
 /// Whether each value names a class.
-fn are_classes(schema: &Schema, values: &[Octets]) -> bool
+fn have_classes(schema: &Schema, values: &[Octets]) -> bool
     ensures { result ≡ are_names_of_classes schema.now values.now }
 {
     values
@@ -190,24 +190,59 @@ fn are_classes(schema: &Schema, values: &[Octets]) -> bool
         .all(|value| is_class(schema, value.as_slice()))
 }
 
-/// The values of objectClass; none, where it isn't there.
-pub fn class_values<'a>(schema: &Schema, attributes: &'a [Attribute]) -> &'a [Octets]
-    ensures { result.now ≡ values_of_object_class schema.now (attributes_of attributes.now) }
+/// Whether each value of an attribute names a class.
+fn are_classes(schema: &Schema, attribute: &Attribute) -> bool
+    ensures { result ≡ are_names_of_classes schema.now attribute.now.values }
+{
+    let mut rest = attribute.parts();
+    while let Some((part, others)) = rest.split_first() {
+        if !have_classes(schema, part.values) {
+            return false;
+        }
+        rest = others;
+    }
+    true
+}
+
+/// The attribute objectClass, if it is there.
+fn object_class<'a>(schema: &Schema, attributes: &'a [Attribute]) -> Option<&'a Attribute>
+    ensures values { MatchOption result (values_of_object_class schema.now (attributes_of attributes.now) ≡ [])
+        (λ a. values_of_object_class schema.now (attributes_of attributes.now) ≡ a.now.values) }
+    ensures there { is_some result ≡ list_any (λ a. is_object_class schema.now a.kind) (attributes_of attributes.now) }
 {
     let object_class = schema.object_class_type();
     for attribute in attributes {
         if attribute.type_id() == object_class {
-            return attribute.values();
+            return Some(attribute);
         }
     }
-    &[]
+    None
 }
 
-/// Whether objectClass is there.
-fn has_object_class(schema: &Schema, attributes: &[Attribute]) -> bool
-    ensures { result ≡ list_any (λ a. is_object_class schema.now a.kind) (attributes_of attributes.now) }
+/// The classes that the values of objectClass name; none, where it isn't there.
+pub fn classes_of(
+    alloc: Global,
+    schema: &Schema,
+    attributes: &[Attribute],
+) -> Result<Vec<ClassId>, AllocError>
+    ensures { IfOk result (λ v. v.items ≡ classes_that_values_name schema.now
+        (values_of_object_class schema.now (attributes_of attributes.now))) }
 {
-    has_type(attributes, schema.object_class_type())
+    match object_class(schema, attributes) {
+        Some(attribute) => classes_named(alloc, schema, attribute),
+        None => Ok(Vec::new(alloc)),
+    }
+}
+
+/// Whether objectClass is there, and each of its values names a class.
+fn has_classes(schema: &Schema, attributes: &[Attribute]) -> bool
+    ensures { result ≡ (list_any (λ a. is_object_class schema.now a.kind) (attributes_of attributes.now)
+        && are_names_of_classes schema.now (values_of_object_class schema.now (attributes_of attributes.now))) }
+{
+    match object_class(schema, attributes) {
+        Some(attribute) => are_classes(schema, attribute),
+        None => false,
+    }
 }
 
 /// Whether the attributes are what the classes that objectClass names demand, objectClass itself among them. Its only
@@ -219,10 +254,9 @@ pub fn obeys_classes(
 ) -> Result<bool, AllocError>
     ensures { IfOk result (λ b. b ≡ entry_obeys_classes schema.now (attributes_of attributes.now)) }
 {
-    let values = class_values(schema, attributes);
-    if !has_object_class(schema, attributes) || !are_classes(schema, values) {
+    if !has_classes(schema, attributes) {
         return Ok(false);
     }
-    let classes = classes_named(alloc, schema, values)?;
+    let classes = classes_of(alloc, schema, attributes)?;
     obeys(alloc, schema, classes.as_slice(), attributes)
 }

@@ -5,8 +5,7 @@ ghost use Rattle.dir_entry.specs.Entry.{attributes_of};
 ghost use Rattle.entry_updates.specs.Classes.{class_values as values_of_object_class, classes_named as classes_that_values_name};
 ghost use Rattle.entry_updates.specs.Structural.{structural_class as structural_class_of, is_other_than, changes_class};
 
-use crate::classes::classes_named;
-use crate::obeying::{class_values, is_one_chain, structural_of};
+use crate::obeying::{classes_of, is_one_chain, structural_of};
 use dir_entry::{Attribute, ClassId, Entry, Schema};
 use std::alloc::{AllocError, Global};
 
@@ -34,7 +33,7 @@ fn structural_class_among(
     ensures { IfOk result (λ c. c ≡ structural_class_of schema.now (classes_that_values_name schema.now
         (values_of_object_class schema.now (attributes_of attributes.now)))) }
 {
-    let classes = classes_named(alloc, schema, class_values(schema, attributes))?;
+    let classes = classes_of(alloc, schema, attributes)?;
     structural_class(alloc, schema, classes.as_slice())
 }
 

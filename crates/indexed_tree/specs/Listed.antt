@@ -16,10 +16,10 @@ listed e = record { number = e.number; entry = e.entry }
 abbrev pub listed_of : List Entered → List Indexed
 listed_of d = map listed d
 
--- the entry of a number, if there is one, has the same attributes as this one of each type but these
-abbrev pub IsSameBut : List ℕ → ℕ → List Entered → List KeyedAttribute → Type 0
-IsSameBut types number d entry = (a : List KeyedAttribute) → option_map (λ e. e.entry) (entry_at number d) ≡ Some a →
-    AreSameBut types a entry
+-- the entry of a number, if there is one, is the same as this one but for attributes of some types and some named values
+abbrev pub IsSameBut : List ℕ → List KeyedAttribute → ℕ → List Entered → List KeyedAttribute → Type 0
+IsSameBut types named number d entry = (a : List KeyedAttribute) → option_map (λ e. e.entry) (entry_at number d) ≡
+    Some a → AreSameBut types named a entry
 
 -- an index choice, and a tree whose entries have posting lists under it
 pub record IndexedModel : Type 0 where

@@ -10,7 +10,8 @@ ghost use Rattle.indexed_tree.specs.Listed.{listed_of, IsSameBut};
 
 use crate::listing::{listed_more, relisted, relisted_in, unlisted};
 use dir_index::{
-    Indexes, Name, NumberSet, Posting, PostingLists, Postings, Range, Rdn, TypeId, has_in_range,
+    Attribute, Indexes, Name, NumberSet, Posting, PostingLists, Postings, Range, Rdn, TypeId,
+    has_in_range,
 };
 use directory_api::{SharedEntry, Tree};
 use std::alloc::{AllocError, Global};
@@ -141,14 +142,16 @@ impl IndexedTree {
         Ok(IndexedTree { tree, postings })
     }
 
-    /// The same where the entry has other attributes of some types alone: the lists of other types aren't looked at.
+    /// The same where the entry has other attributes of some types alone, or lacks or has more of the values that are
+    /// named: the lists of other types and of other values aren't looked at.
     pub fn replaced_in(
         self,
         number: u64,
         types: &[TypeId],
+        named: &[Attribute],
         entry: SharedEntry,
     ) -> Result<IndexedTree, AllocError>
-        requires same { IsSameBut types.now number self.tree.entries entry }
+        requires same { IsSameBut types.now named.now number self.tree.entries entry }
         ensures { IfOk result (λ t. t ≡ record {
           indexes = self.indexes;
           tree =
@@ -156,7 +159,7 @@ impl IndexedTree {
         }) }
     {
         let IndexedTree { tree, postings } = self;
-        let postings = relisted_in(&tree, postings, number, types, &entry)?;
+        let postings = relisted_in(&tree, postings, number, types, named, &entry)?;
         let tree = tree.replaced(number, entry)?;
         Ok(IndexedTree { tree, postings })
     }

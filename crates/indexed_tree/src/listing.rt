@@ -4,7 +4,7 @@ ghost use Rattle.directory_api.specs.dir_tree.Directory.{AllBelow, unnumbered, r
 ghost use Rattle.dir_index.specs.Whole.{AreOf};
 ghost use Rattle.indexed_tree.specs.Listed.{listed_of, IsSameBut};
 
-use dir_index::{Entry, Postings, TypeId};
+use dir_index::{Attribute, Entry, Postings, TypeId};
 use directory_api::Tree;
 use std::alloc::AllocError;
 
@@ -65,23 +65,24 @@ pub fn relisted(
     }
 }
 
-/// The same where the entry has other attributes of some types alone.
+/// The same where the entry has other attributes of some types alone, or lacks or has more of the values that are named.
 pub fn relisted_in(
     tree: &Tree,
     postings: Postings,
     number: u64,
     types: &[TypeId],
+    named: &[Attribute],
     entry: &Entry,
 ) -> Result<Postings, AllocError>
     requires of { AreOf postings (listed_of tree.now.entries) }
-    requires same { IsSameBut types.now number tree.now.entries entry.now }
+    requires same { IsSameBut types.now named.now number tree.now.entries entry.now }
     ensures lists { IfOk result (λ p. AreOf p (listed_of (replaced number entry.now tree.now.entries))) }
     ensures indexes { IfOk result (λ p. p.indexes ≡ postings.indexes) }
 {
     tree.is_directory();
     match tree.entry(number) {
         Some(held) => {
-            let lists = postings.replaced_in(number, types, held, entry)?;
+            let lists = postings.replaced_in(number, types, named, held, entry)?;
             Ok(lists)
         }
         None => Ok(postings),

@@ -74,6 +74,17 @@ is_from_attribute ix a e p =
     is_from_presence ks a.kind p || (is_from_several ks a.kind (makes_several a e) p || list_any
     (is_from_key ks a.kind p) a.keys)
 
+-- whether values bring a posting: one of their keys does, or that there is one more of their type
+abbrev pub is_brought : Posting → List KeyedAttribute → Bool
+is_brought (Present t) named = has_type t named
+is_brought (Several t) named = has_type t named
+is_brought (Equal t k) named = some_key t (is_same_key k) named
+is_brought (Run t g) named = some_key t (stands_in g) named
+
+-- whether a posting is one that is kept and that values bring
+abbrev pub is_from_named : List Kinds → List KeyedAttribute → Posting → Bool
+is_from_named ix named p = is_kept ix p && is_brought p named
+
 -- whether the list of a key is one that is kept and lists the entry
 abbrev pub lists_by : List Kinds → List KeyedAttribute → ListKey → Bool
 lists_by ix e k =

@@ -1,6 +1,7 @@
 -- What search doesn't prove of `mark_all`: `loop-attribute-preserved-in_ok-mark_whole` and `loop-attribute-preserved`,
 -- by lemmas of `Changed` and `Untouched`.
 use Rattle.std.proofs.Common.{◌∙◌, sym}
+use Rattle.dir_index.specs.private.Touched.{is_whole}
 use Rattle.dir_index.proofs.Changed.{entry_rest}
 use Rattle.dir_index.proofs.Untouched.{passed_over}
 use Rattle.dir_index.proofs.apart.mark_all.Goals as goal
@@ -19,6 +20,6 @@ loop-attribute-preserved c =
     record {
       more = c.loop-attribute.invariant.more;
       all = λ p on h k. c.loop-attribute.invariant.all p on h
-          (passed_over c.args.indexes.now c.args.touched.now c.loop-attribute.rest.now c.in-Some.others.now
-          c.in-Some.attribute.now p c.in-Some.ensures.cases.0 (sym c.is_touched.ensures ∙ c.if-is_touched.false) on ∙ k);
+          (passed_over c.args.indexes.now (is_whole c.args.touched.now) c.loop-attribute.rest.now c.in-Some.others.now
+          c.in-Some.attribute.now p c.in-Some.ensures.cases.0 (sym c.is_whole.ensures ∙ c.if-is_whole.false) on ∙ k);
     }

@@ -1,10 +1,16 @@
-use Rattle.std.proofs.Common.{◌≡◌, ℕ, List, Bool, length}
+use Rattle.std.proofs.Common.{◌≡◌, ◌≤◌, ℕ, List, Bool, map, length, take}
 use Rattle.std.specs.List.{list_any}
 use Rattle.dir_index.proofs.key_changes.before_end.Given as goal
 
-abbrev pub invariant-loop-earlier_key : goal.invariant-loop-earlier_key
-invariant-loop-earlier_key l = (f : List ℕ → Bool) → list_any f l.earlier ≡ list_any f l.later → list_any f l.before ≡
-    list_any f l.after
+abbrev pub invariant-loop-earlier : goal.invariant-loop-earlier
+invariant-loop-earlier l =
+    record {
+      earlier : l.earlier ≤ length l.before;
+      later : l.later ≤ length l.after;
+      same : (f : List ℕ → Bool) → list_any f (map (λ k. k.now) (take l.earlier l.before)) ≡ list_any f
+          (map (λ k. k.now) (take l.later l.after)) → list_any f (map (λ k. k.now) l.before) ≡ list_any f
+          (map (λ k. k.now) l.after);
+    }
 
-abbrev pub decreases-loop-earlier_key : goal.decreases-loop-earlier_key
-decreases-loop-earlier_key l = length l.earlier
+abbrev pub decreases-loop-earlier : goal.decreases-loop-earlier
+decreases-loop-earlier l = l.earlier

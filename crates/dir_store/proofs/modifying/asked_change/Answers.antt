@@ -7,7 +7,7 @@ use Rattle.dir_store.proofs.modifying.asked_change.Goals as goal
 
 pub returns-clause-same : goal.returns-clause-same
 returns-clause-same c =
-    same_found c.in_ok-changed.changed.types.items (rdns c.rdns.result.now) c.args.tree.now.entries
+    same_found c.in_ok-changed.changed.touched.types.items c.in_ok-changed.changed.touched.named.items (rdns c.rdns.result.now) c.args.tree.now.entries
     (entered_of c.in_ok-number.number c.in_ok-number.held) c.in_ok-changed.changed.number c.in_ok-changed.changed.entry
     c.is_directory.ensures.rise c.in_ok-number.ensures.found (sym c.in_ok-changed.ensures.number)
     c.in_ok-changed.ensures.same

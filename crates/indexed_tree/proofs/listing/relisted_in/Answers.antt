@@ -28,6 +28,6 @@ returns-in-None-clause-lists c =
 
 pub replaced_in-requires : goal.replaced_in-requires
 replaced_in-requires c = record {
-  same = subst (λ (e : List KeyedAttribute). AreSameBut c.args.types.now e c.args.entry.now) (sym c.deref.ensures)
+  same = subst (λ (e : List KeyedAttribute). AreSameBut c.args.types.now c.args.named.now e c.args.entry.now) (sym c.deref.ensures)
       (c.requires.same c.in-Some.held.now (sym c.in-Some.ensures));
 }
