@@ -1,30 +1,17 @@
 -- An entry and a relative name may cross threads, as a set for `search`: a crate that shares them names it, since a
--- search that goes down through their lists as well runs out of steps. Parts and attributes are steps on the way.
+-- search that goes down through their lists as well runs out of steps. Attributes are steps on the way.
 use denote.Param.Send.{IsSend, IsSync, sendable}
 use Rattle.std.proofs.Crossing.{crosses}
 use Rattle.ldap_match.specs.ldap_dn.contracts.rdn.Rdn as Rdn
-use Rattle.dir_entry.specs.contracts.kept_part.KeptPart as Part
-use Rattle.dir_entry.specs.contracts.part_list.PartList as PartList
+use Rattle.value_parts.proofs.Crossing.{parts_cross}
 use Rattle.dir_entry.specs.contracts.attribute.Attribute as Attribute
 use Rattle.dir_entry.specs.contracts.entry.Entry as Held
 
-part_send : IsSend Part.the_field.row
-part_send = search (crosses, sendable) depth 60 fits 20000
-
-part_sync : IsSync Part.the_field.row
-part_sync = search (crosses, sendable) depth 60 fits 20000
-
-list_send : IsSend PartList.the_field.row
-list_send = search (part_send, crosses, sendable) depth 60 fits 20000
-
-list_sync : IsSync PartList.the_field.row
-list_sync = search (part_sync, crosses, sendable) depth 60 fits 20000
-
 attribute_send : IsSend Attribute.the_field.row
-attribute_send = search (list_send, list_sync, crosses, sendable) depth 60 fits 20000
+attribute_send = search (parts_cross, crosses, sendable) depth 60 fits 20000
 
 attribute_sync : IsSync Attribute.the_field.row
-attribute_sync = search (list_send, list_sync, crosses, sendable) depth 60 fits 20000
+attribute_sync = search (parts_cross, crosses, sendable) depth 60 fits 20000
 
 pub entry_send : IsSend Held.the_field.row
 entry_send = search (attribute_send, crosses, sendable) depth 60 fits 20000

@@ -2,7 +2,6 @@
 use Rattle.std.proofs.Common.{ℕ, List, [], ◌∷◌, Bool, true, false, ◌||◌, Option, None, Some, ◌≡◌, refl, ap, ap₂, sym, subst, ◌∙◌, map, is_some}
 use Rattle.std.specs.List.{list_any}
 use Rattle.std.specs.Str.{bytes_eq}
-use Rattle.std.proofs.lemmas.Slice.Eq.{bytes_eq-Decides}
 use Rattle.ldap_match.specs.ldap_syntax.Meaning.{Meaning}
 use Rattle.ldap_match.specs.ldap_words.declared.rule.Rule.{Rule}
 use Rattle.ldap_match.specs.ldap_schema.Schema.{SchemaModel}
@@ -14,6 +13,7 @@ use Rattle.ldap_match.specs.Keyed.{key_at, test_by, test_for, test_value, AreKey
 use Rattle.ldap_match.specs.private.Keyed.{equality_test}
 use Rattle.ldap_match.specs.Truth.{truth_of}
 use Rattle.ldap_match.specs.declared.truth.Truth.TheVariants.{Undefined}
+use Rattle.value_parts.proofs.Flipped.{turned}
 use Rattle.dir_entry.specs.Entry.{KeyedAttribute}
 use Rattle.dir_entry.specs.Compared.{octets_by}
 use Rattle.dir_entry.specs.Values.{is_same_meaning, is_equivalent_by, is_equivalent, has_twice, has_repeats}
@@ -32,17 +32,6 @@ decided_alike false false h = refl
 never_undefined : (a : Bool) → truth_of (a || false) ≡ Undefined → ⊥
 never_undefined true h = cc
 never_undefined false h = cc
-
-both_ways : (a b : Bool) → (a ≡ true → b ≡ true) → (b ≡ true → a ≡ true) → a ≡ b
-both_ways true true f g = refl
-both_ways true false f g = sym (f refl)
-both_ways false true f g = g refl
-both_ways false false f g = refl
-
--- octets are compared either way round
-pub turned : (k l : List ℕ) → bytes_eq k l ≡ bytes_eq l k
-turned k l = both_ways (bytes_eq k l) (bytes_eq l k) (λ h. (bytes_eq-Decides l k).1
-    (sym ((bytes_eq-Decides k l).0 h))) (λ h. (bytes_eq-Decides k l).1 (sym ((bytes_eq-Decides l k).0 h)))
 
 by_meaning : (s : SchemaModel) (r : Rule) (w : List ℕ) (b : Bool) (o : Option Meaning) → truth_of (b || false) ≡
     satisfied s r o (w ∷ []) → b ≡ is_same_meaning o (meaning s r w)

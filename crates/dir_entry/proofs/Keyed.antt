@@ -6,8 +6,8 @@ use Rattle.ldap_match.specs.ldap_schema.Schema.{SchemaModel}
 use Rattle.ldap_match.specs.ldap_schema.Rules.{equality_of}
 use Rattle.ldap_match.specs.Keyed.{key_at, AreKeysBy, AreKeysOf}
 use Rattle.dir_entry.specs.Entry.{KeyedAttribute, IsKeyedBy}
-use Rattle.dir_entry.specs.Picked.{picked}
-use Rattle.dir_entry.proofs.Picked.{map_picked}
+use Rattle.value_parts.specs.Picked.{picked}
+use Rattle.value_parts.proofs.Picked.{map_picked}
 
 pub list_all-map : {A B : Type 0} (p : B → Bool) (f : A → B) (xs : List A) → list_all p (map f xs) ≡
     list_all (λ x. p (f x)) xs

@@ -3,10 +3,6 @@ pub mod Keyed
 pub mod Shown
 pub mod Twice
 pub mod Equivalents
-pub mod Picked
-pub mod Wholes
-pub mod Taken
-pub mod Digests
 pub use Rattle.ldap_match.proofs.ldap_words as ldap_words
 pub use Rattle.ldap_match.proofs as ldap_match
 pub use Rattle.shared_map.proofs as shared_map

@@ -3,6 +3,7 @@ use Rattle.std.proofs.Common.{ℕ, ◌+◌, ◌<◌, List, [], ◌∷◌, ◌++�
 use Rattle.std.specs.List.{list_any}
 use Rattle.std.proofs.lemmas.List.{take_more, take-append-drop}
 use Rattle.std.proofs.lemmas.List.Folds.{list_any-append}
+use Rattle.value_parts.proofs.Flipped.{any_flipped}
 use Rattle.dir_entry.specs.Values.{has_twice}
 
 or_four : (a b c d : Bool) → ((a || (b || false)) || (c || d)) ≡ ((a || c) || (b || d))
@@ -29,12 +30,6 @@ twice_push eq (x ∷ xs) y =
     ap (λ (b : Bool). b || has_twice eq (xs ++ y ∷ [])) (list_any-append (eq x) xs (y ∷ []))
     ∙ ap (λ (b : Bool). (list_any (eq x) xs || (eq x y || false)) || b) (twice_push eq xs y)
     ∙ or_four (list_any (eq x) xs) (eq x y) (has_twice eq xs) (list_any (λ x. eq x y) xs)
-
-pub any_flipped : {A : Type 0} (eq : A → A → Bool) (symm : (x y : A) → eq x y ≡ eq y x) (y : A) (xs : List A) →
-    list_any (λ x. eq x y) xs ≡ list_any (eq y) xs
-any_flipped eq symm y [] = refl
-any_flipped eq symm y (x ∷ xs) = ap (λ (b : Bool). b || list_any (λ x. eq x y) xs) (symm x y)
-    ∙ ap (λ (b : Bool). eq y x || b) (any_flipped eq symm y xs)
 
 pub twice_front : {A : Type 0} (eq : A → A → Bool) (xs ys : List A) → has_twice eq xs ≡ true →
     has_twice eq (xs ++ ys) ≡ true

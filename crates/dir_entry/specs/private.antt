@@ -1,8 +1,3 @@
 -- What no public contract leads to: contracts of other functions, and proofs, speak of it. Who trusts the public ones
 -- need not read it.
-pub mod Kept
-pub mod Parts
-pub mod KeptParts
-pub mod Digests
-pub mod Digested
 pub mod Types

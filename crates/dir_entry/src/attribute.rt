@@ -8,22 +8,19 @@ ghost use Rattle.ldap_match.specs.Keyed.{key_at, AreKeysOf};
 ghost use Rattle.ldap_match.specs.ldap_schema.Rules.{equality_of};
 ghost use Rattle.ldap_match.specs.ldap_syntax.Forms.{form_of};
 ghost use Rattle.std.specs.Str.{bytes_eq};
-ghost use Rattle.dir_entry.specs.Picked.{picked};
+ghost use Rattle.value_parts.specs.Picked.{picked};
 ghost use Rattle.dir_entry.specs.Entry.{are_in_syntax};
 ghost use Rattle.dir_entry.specs.Compared.{octets_by};
 ghost use Rattle.dir_entry.specs.Values.{has_repeats};
 
-use crate::kept::StoredValues;
-use crate::lists::Lists;
-use crate::parts::Parts;
 use crate::repeats::has_twice;
-use crate::without::sought;
 use ldap_match::{
     Form, Key, Rule, Schema, TypeId, ValueError, equality_rule, is_of_syntax, key, tests_are_items,
 };
 use shared_map::Octets;
 use std::alloc::{AllocError, Global};
 use std::marker::Model;
+use value_parts::{Lists, Parts, StoredValues, sought};
 
 /// An attribute of an entry: a type and its values (RFC 4512 2.2), with the key of each value under the type's EQUALITY
 /// rule, and the texts of each. Most have one value, which stands in place.
@@ -44,7 +41,7 @@ impl Drop for Attribute {
 
 impl Model for Attribute {
     ghost use Rattle.dir_entry.specs.Entry.{KeyedAttribute};
-    ghost use Rattle.dir_entry.specs.Kept.{values_in, keys_in};
+    ghost use Rattle.value_parts.specs.Kept.{values_in, keys_in, forms_in};
 
     ghost Value = { KeyedAttribute };
 
@@ -53,7 +50,6 @@ impl Model for Attribute {
     ghost use Rattle.std.specs.Prelude.{◌≡◌, map};
     ghost use Rattle.ldap_match.specs.ldap_schema.Rules.{equality_of};
     ghost use Rattle.ldap_match.specs.ldap_syntax.Forms.{form_of};
-    ghost use Rattle.dir_entry.specs.private.Kept.{forms_in};
 
     ghost invariant = { λ a. forms_in a.held ≡ map form_of (values_in a.held) };
 }

@@ -1,25 +1,16 @@
 //! Entries: attributes with the keys of their values.
 //!
-//! Refuses what an attribute may not be (`entry`, `repeats`). An attribute keeps one value in place, few in lists, and
-//! many in parts (`kept` over `part_list`, `kept_part` and `lists`), so that a change copies one part (`without`) and a
-//! look-up compares digests (`digest`). Callers read all of them in parts (`parts`).
+//! Refuses what an attribute may not be (`entry`, `repeats`). How an attribute keeps its values is `value_parts`', which
+//! callers read in parts.
 //!
 //! Proved: an attribute is added with its keys, or refused with the code of the first check that fails (21, 20), and
 //! then nothing changes (`Entry::add`).
 #![tactic(auto)]
 
 mod attribute;
-mod digest;
 mod entry;
 mod fault;
-mod kept;
-mod kept_part;
-mod lists;
-mod part;
-mod part_list;
-mod parts;
 mod repeats;
-mod without;
 
 pub use attribute::{Attribute, copy_values};
 pub use entry::{Entry, has_type, valid_attribute};
@@ -33,8 +24,7 @@ pub use ldap_match::{
     ordering_rule, parts_compare, print_before, print_behind, print_from_leaf, substrings_rule,
     substrings_test, tests_are_items, texts_tell,
 };
-pub use part::Part;
-pub use parts::Parts;
 pub use shared_map::{
     Cursor, NumberSet, NumberWalk, Octets, Shared, SharedMap, Sought, ValueChange, Walk,
 };
+pub use value_parts::{Part, Parts};

@@ -1,9 +1,9 @@
 -- What search doesn't prove of `kept`: what `held` requires and the invariant, by lemmas of `Picked`.
 use Rattle.std.proofs.Common.{map, ap, sym, ◌∙◌}
 use Rattle.ldap_match.specs.ldap_syntax.Forms.{form_of}
-use Rattle.dir_entry.specs.Kept.{values_in}
-use Rattle.dir_entry.specs.Picked.{picked}
-use Rattle.dir_entry.proofs.Picked.{map_picked}
+use Rattle.value_parts.specs.Kept.{values_in}
+use Rattle.value_parts.specs.Picked.{picked}
+use Rattle.value_parts.proofs.Picked.{map_picked}
 use Rattle.dir_entry.proofs.attribute.Attribute.kept.Goals as goal
 
 pub held-requires : goal.held-requires

@@ -2,7 +2,7 @@
 use Rattle.std.proofs.Common.{ℕ, List, ◌≡◌, ◌++◌, sym, subst}
 use Rattle.ldap_match.specs.Keyed.{AreKeysOf}
 use Rattle.dir_entry.specs.Entry.{KeyedAttribute}
-use Rattle.dir_entry.specs.Kept.{values_in, keys_in}
+use Rattle.value_parts.specs.Kept.{values_in, keys_in}
 use Rattle.dir_entry.proofs.Keyed.{keyed_join}
 use Rattle.dir_entry.proofs.attribute.Attribute.with_values.Goals as goal
 

@@ -2,12 +2,12 @@
 -- `Taken`.
 use Rattle.std.proofs.Common.{List, ℕ, Bor, ap, map, sym, subst, ◌∙◌}
 use Rattle.dir_entry.specs.Entry.{KeyedAttribute}
-use Rattle.dir_entry.specs.Parts.{PartModel}
-use Rattle.dir_entry.specs.Picked.{picked}
+use Rattle.value_parts.specs.Parts.{PartModel}
+use Rattle.value_parts.specs.Picked.{picked}
 use Rattle.dir_entry.specs.Compared.{octets_by}
-use Rattle.dir_entry.specs.private.Kept.{part_of}
-use Rattle.dir_entry.specs.private.KeptParts.{are_beside, part_without, HaveTexts}
-use Rattle.dir_entry.proofs.Taken.{without_texts}
+use Rattle.value_parts.specs.Kept.{part_of}
+use Rattle.value_parts.specs.KeptParts.{are_beside, part_without, HaveTexts}
+use Rattle.value_parts.proofs.Taken.{without_texts}
 use Rattle.dir_entry.proofs.attribute.Attribute.without.Goals as goal
 
 pub returns-clause-values : goal.returns-clause-values

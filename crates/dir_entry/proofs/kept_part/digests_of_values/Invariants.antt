@@ -1,6 +1,0 @@
-use Rattle.std.proofs.Common.{◌≡◌, ◌++◌, drop, map}
-use Rattle.dir_entry.specs.private.Digests.{digest_of}
-use Rattle.dir_entry.proofs.kept_part.digests_of_values.Given as goal
-
-abbrev pub invariant-loop-value : goal.invariant-loop-value
-invariant-loop-value l = l.digests.items ++ map digest_of (drop l.value-index l.values) ≡ map digest_of l.values

@@ -1,7 +1,0 @@
-use Rattle.std.proofs.Common.{◌≡◌, ◌++◌}
-use Rattle.dir_entry.specs.Picked.{picked}
-use Rattle.dir_entry.proofs.lists.pick.Given as goal
-
-abbrev pub invariant-loop-item : goal.invariant-loop-item
-invariant-loop-item g l = l.picked.items ++ picked l.rest l.item-iterator.rest.items ≡ picked l.fn.marks
-    l.fn.items.items

@@ -1,6 +1,0 @@
-use Rattle.std.proofs.Common.{◌≡◌, take, length}
-use Rattle.dir_entry.specs.Parts.{whole}
-use Rattle.dir_entry.proofs.part_list.count_of.Given as goal
-
-abbrev pub invariant-loop-part : goal.invariant-loop-part
-invariant-loop-part l = l.count ≡ length (whole (take l.part-index l.parts)).values

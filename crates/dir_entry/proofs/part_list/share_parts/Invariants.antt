@@ -1,5 +1,0 @@
-use Rattle.std.proofs.Common.{◌≡◌, ◌++◌, drop}
-use Rattle.dir_entry.proofs.part_list.share_parts.Given as goal
-
-abbrev pub invariant-loop-part : goal.invariant-loop-part
-invariant-loop-part l = l.copy.items ++ drop l.part-index l.parts ≡ l.parts

@@ -1,7 +1,0 @@
-use Rattle.std.proofs.Common.{◌≡◌, drop}
-use Rattle.std.specs.List.{list_all}
-use Rattle.dir_entry.specs.private.KeptParts.{fits}
-use Rattle.dir_entry.proofs.without.all_fit.Given as goal
-
-abbrev pub invariant-loop-part : goal.invariant-loop-part
-invariant-loop-part l = list_all (fits l.keyed) (drop l.part-index l.parts) ≡ list_all (fits l.keyed) l.parts

@@ -1,0 +1,6 @@
+pub mod Crossing
+pub mod Flipped
+pub mod Picked
+pub mod Wholes
+pub mod Taken
+pub mod Digests

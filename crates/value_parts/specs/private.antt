@@ -1,0 +1,5 @@
+-- What no public contract leads to: contracts of other functions, and proofs, speak of it. Who trusts the public ones
+-- need not read it.
+pub mod Digested
+pub mod Fitting
+pub mod Parts
