@@ -1,8 +1,7 @@
 //! Reads the names that updates give.
 ghost use Rattle.std.specs.Prelude.{◌≡◌, Ok, None, IfOk, IfErr, string_bytes};
 ghost use Rattle.std.specs.Option.{option_map};
-ghost use Rattle.indexed_tree.specs.ldap_dn.Texts.{name_of_text};
-ghost use Rattle.indexed_tree.specs.Places.{spelling_of, last_of, parent_of, own_rdn as own_rdn_of};
+ghost use Rattle.indexed_tree.specs.Places.{parent_of, own_rdn as own_rdn_of};
 ghost use Rattle.dir_store.specs.Updates.{one_rdn as one_rdn_of, name_asked, rdn_asked, superior_asked};
 ghost use Rattle.dir_store.specs.private.View.{RefusedWith};
 

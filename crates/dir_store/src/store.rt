@@ -128,7 +128,9 @@ impl Store {
     }
 
     /// The store after an update under a number above those of all entries, or as it was where the update is refused,
-    /// and the reply. What the store alone owns is changed where it stands; out of memory nothing is left.
+    /// and the reply. What the store alone owns is changed where it stands, except the tree's maps at a delete, its
+    /// relative names and sets at a rename, and lists that an entry leaves: these are copied as far as they differ. Out
+    /// of memory nothing is left.
     pub fn applied(self, alloc: Global, number: u64, op: &Op) -> Result<Applied, AllocError>
         requires above { NumbersBelow number self.directory.entries }
         ensures directory { IfOk result (λ a. a.store.directory ≡ applied self.directory number op.now) }

@@ -1,5 +1,5 @@
 //! Makes the entry that an add asks for, or refuses it.
-ghost use Rattle.std.specs.Prelude.{◌≡◌, [], Ok, map, IfOk, IfErr, OnOk, OnErr};
+ghost use Rattle.std.specs.Prelude.{◌≡◌, [], Ok, map, IfOk, IfErr, OnOk};
 ghost use Rattle.entry_changes.specs.dir_entry.Entry.{attributes_of, IsKeyedBy};
 ghost use Rattle.ldap_op.specs.ldap_parts.View.{attribute_view};
 ghost use Rattle.entry_changes.specs.ldap_schema.Schema.{find as type_of};

@@ -1,6 +1,6 @@
 // Decides whether an entry's attributes obey its classes.
 
-ghost use Rattle.std.specs.Prelude.{◌≡◌, ◌&&◌, [], IfOk, map, is_some, MatchOption};
+ghost use Rattle.std.specs.Prelude.{◌≡◌, ◌&&◌, [], IfOk, is_some, MatchOption};
 ghost use Rattle.dir_entry.specs.Entry.{attributes_of, shown};
 ghost use Rattle.entry_updates.specs.Classes.{classes_named as classes_that_values_name, has_single_value as has_a_single_value, has_single_values as has_only_single_values, is_structural as is_structural_class, structural_of as structural_classes, is_one_chain as is_a_chain, has_required as has_all_required, is_allowed_by as is_type_allowed_by, is_allowed as is_type_allowed, are_classes as are_names_of_classes, class_values as values_of_object_class, obeys as obeys_all, obeys_classes as entry_obeys_classes, is_object_class, required as types_required, allowed as types_allowed};
 ghost use Rattle.dir_entry.specs.ldap_schema.Schema.{class_named};

@@ -1,9 +1,9 @@
 //! The attributes that a modify may touch.
-ghost use Rattle.std.specs.Prelude.{◌≡◌, ◌++◌, map, nat_lt, length, IfOk, OnOk};
+ghost use Rattle.std.specs.Prelude.{◌≡◌, ◌++◌, map, IfOk, OnOk};
 ghost use Rattle.entry_changes.specs.ldap_schema.Schema.{find as type_of};
 ghost use Rattle.entry_changes.specs.dir_entry.Entry.{attributes_of, IsKeyedBy};
 ghost use Rattle.ldap_op.specs.ldap_parts.UpdateView.{change_view};
-ghost use Rattle.entry_updates.specs.Touched.{is_of_values as is_of_the_values, is_by_values, type_whole, values_named, types_whole, all_values_named, types_unruled, types_touched};
+ghost use Rattle.entry_updates.specs.Touched.{is_of_values as is_of_the_values, type_whole, values_named, types_whole, all_values_named, types_unruled, types_touched};
 ghost use Rattle.entry_updates.specs.private.Touched.{IsNamed};
 
 use dir_entry::{Attribute, ValueError, equality_rule};

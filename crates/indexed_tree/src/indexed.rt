@@ -4,7 +4,6 @@ ghost use Rattle.std.specs.Option.{option_map};
 ghost use Rattle.dir_index.specs.ldap_dn.Names.{rdns};
 ghost use Rattle.directory_api.specs.dir_tree.Directory.{AllBelow, name_eq, begins, find, above, has_below, has_footing, unnumbered, replaced, moved};
 ghost use Rattle.directory_api.specs.dir_tree.Placed.{name_placed};
-ghost use Rattle.dir_index.specs.Postings.{postings_of};
 ghost use Rattle.dir_index.specs.Whole.{AreOf};
 ghost use Rattle.indexed_tree.specs.Listed.{listed_of, IsSameBut};
 
@@ -110,8 +109,8 @@ impl IndexedTree {
         Ok(IndexedTree { tree, postings })
     }
 
-    /// The tree without the entry of a name that nothing stands below. What the tree alone owns is changed
-    /// where it stands; out of memory nothing is left.
+    /// The tree without the entry of a name that nothing stands below. Its maps and the lists that the entry leaves are
+    /// copied as far as they differ, also where the tree alone owns them; out of memory nothing is left.
     pub fn deleted(self, name: &[Rdn], number: u64) -> Result<IndexedTree, AllocError>
         requires here { option_map (λ e. e.number) (find (rdns name.now) self.tree.entries) ≡ Some number }
         requires leaf { has_below (rdns name.now) self.tree.entries ≡ false }
@@ -127,8 +126,9 @@ impl IndexedTree {
         Ok(IndexedTree { tree, postings })
     }
 
-    /// The tree with other attributes of the entry of a number. What the tree alone owns is changed where it
-    /// stands; out of memory nothing is left.
+    /// The tree with other attributes of the entry of a number. What the tree alone owns of its entries and of the lists
+    /// that the entry joins is changed where it stands; lists that it leaves are copied as far as they differ. Out of
+    /// memory nothing is left.
     pub fn replaced(self, number: u64, entry: SharedEntry) -> Result<IndexedTree, AllocError>
         ensures { IfOk result (λ t. t ≡ record {
           indexes = self.indexes;
@@ -165,8 +165,9 @@ impl IndexedTree {
     }
 
     /// The tree with another name and other attributes of an entry: each name that begins with the old one begins with
-    /// the new one in its place, which is spelled as its superior's is. What the tree alone owns is changed
-    /// where it stands; out of memory nothing is left.
+    /// the new one in its place, which is spelled as its superior's is. What the tree alone owns of its entries and of
+    /// the lists that the entry joins is changed where it stands. Relative names, the sets of entries above, and lists
+    /// that it leaves are copied as far as they differ. Out of memory nothing is left.
     pub fn renamed(
         self,
         name: &[Rdn],

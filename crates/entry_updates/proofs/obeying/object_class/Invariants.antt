@@ -1,4 +1,4 @@
-use Rattle.std.proofs.Common.{◌≡◌, nat_eq, drop}
+use Rattle.std.proofs.Common.{◌≡◌, drop}
 use Rattle.std.specs.List.{list_any}
 use Rattle.dir_entry.specs.Entry.{attributes_of}
 use Rattle.entry_updates.specs.Classes.{class_values, is_object_class}
