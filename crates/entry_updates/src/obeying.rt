@@ -16,9 +16,7 @@ fn has_single_value(schema: &Schema, attribute: &Attribute) -> bool
     ensures { result ≡ has_a_single_value schema.now (shown attribute.now) }
 {
     match schema.attribute_type(attribute.type_id()) {
-        Some(attribute_type) => {
-            !attribute_type.is_single_value() || attribute.len() < 2
-        }
+        Some(attribute_type) => !attribute_type.is_single_value() || attribute.len() < 2,
         None => true,
     }
 }
