@@ -84,8 +84,7 @@ fn is_run_of(run: &[u8], attribute: &Attribute) -> bool
 fn has_run(attributes: &[Attribute], type_id: TypeId, run: &[u8]) -> bool
     ensures { result ≡ some_key type_id (is_within run.now) attributes.now }
 {
-    attributes.iter().any(|attribute| attribute.type_id() == type_id
-        && is_run_of(run, attribute))
+    attributes.iter().any(|attribute| attribute.type_id() == type_id && is_run_of(run, attribute))
 }
 
 /// Whether the list of a key lists the entry of these attributes.
