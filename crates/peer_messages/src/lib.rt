@@ -8,9 +8,10 @@
 //!
 //! Proved: what decides in these, as values. That is what a message weighs in a queue (`weighing`), which is short
 //! (`short`), which answer is long and may go out (`answers`), which message is sent for the same as another
-//! (`errands`) and how much a replica has said that it has committed (`saying`). So is which start of a replica is
-//! heard, and what of it is news (`link_table`), and what is said of a replica that is dialed (`reachability`). Of the
-//! locks and atomics that hold these values, and of the threads that ask them, safety alone is proved.
+//! (`errands`) and how much a replica has said that it has committed (`saying`). So is who is heard by the first octets
+//! that it sends (`senders`), which start of a replica is heard, and what of it is news (`link_table`), and what is
+//! said of a replica that is dialed (`reachability`). Of the locks and atomics that hold these values, and of the
+//! threads that ask them, safety alone is proved.
 #![tactic(auto)]
 
 mod answers;
@@ -24,6 +25,7 @@ mod progress;
 mod reachability;
 mod reaching;
 mod saying;
+mod senders;
 mod short;
 mod spelling;
 mod telling;
@@ -41,6 +43,7 @@ pub use peer_link::{
 pub use progress::PeerProgress;
 pub use reaching::TellingDialer;
 pub use replica_clock::Lack;
+pub use senders::{BEHIND_LENGTH, Senders, refusal_of};
 pub use server_monitor::{Counters, Reporter};
 pub use telling::text_of_forgotten;
 pub use vr_short::{NOTE_REST, note_number, note_sender};

@@ -1,6 +1,5 @@
 //! Starts the threads that exchange messages with the other replicas, and ends with them.
 use crate::handler::MessageHandler;
-use crate::heading::Senders;
 use crate::needed_threads::{NeededThreads, readers as readers_of};
 use crate::places::ReplicaAddresses;
 use crate::receiving::PeerReaders;
@@ -8,7 +7,8 @@ use crate::verifying::PeerVerifier;
 use client_link::{Door, PeerConnection, accept_all};
 use crossbeam_channel::{Receiver, Sender, bounded};
 use peer_messages::{
-    Claim, Cluster, LinkTimes, MessageFrames, PeerParts, SocketDialer, TellingDialer, send_all,
+    Claim, Cluster, LinkTimes, MessageFrames, PeerParts, Senders, SocketDialer, TellingDialer,
+    send_all,
 };
 use std::alloc::{AllocError, Global};
 use std::net::{Net, TcpListener, TcpStream};

@@ -1,6 +1,5 @@
 //! What other replicas send: a greeting, and then frames, which become messages that the node hears.
 use crate::handler::MessageHandler;
-use crate::heading::{BEHIND_LENGTH, HEADING, Senders, refusal_of};
 use crate::telling::{
     tell_forgetful, tell_parts_lost, tell_peer_connected, tell_peer_connected_again,
     tell_peer_disconnected, tell_peer_refused, tell_unverified,
@@ -8,8 +7,9 @@ use crate::telling::{
 use client_link::{PeerConnection, PeerStream};
 use crossbeam_channel::Receiver;
 use peer_messages::{
-    Came, Claim, Forgetful, FrameEnd, Gathering, Met, NOTE_REST, PeerParts, Term, WireError, meet,
-    note_number, read_head, read_more, read_rest, refusal_octets, rest,
+    BEHIND_LENGTH, Came, Claim, Forgetful, FrameEnd, Gathering, HEADING, Met, NOTE_REST, PeerParts,
+    Senders, Term, WireError, meet, note_number, read_head, read_more, read_rest, refusal_octets,
+    refusal_of, rest,
 };
 use std::alloc::Global;
 use std::io::Read;

@@ -1,9 +1,8 @@
 //! Looks at connections that have shown no greeting yet, without waiting, and hands those on that may be replicas'.
-use crate::heading::{HEADING, Senders};
 use crate::telling::tell_unverified;
 use client_link::{Door, PeerConnection};
 use crossbeam_channel::{Receiver, RecvTimeoutError, Sender, TrySendError};
-use peer_messages::Reporter;
+use peer_messages::{HEADING, Reporter, Senders};
 use std::alloc::{AllocError, Global};
 use std::collections::VecDeque;
 use std::io::ErrorKind;
