@@ -37,8 +37,8 @@ pub use links::Links;
 pub use parts::{PeerOutbox, PeerParts};
 pub use peer_link::{
     Address, Came, Claim, Cluster, Forgotten, FrameEnd, Gathering, HEADING, Heading, LinkTimes,
-    Met, Op, Outbox, PeerMessage, SocketDialer, Term, Terms, WireError, greeting_heading, heading,
-    meet, read_head, read_more, read_rest, refusal_octets, rest, send_all,
+    Met, Op, Outbox, PeerMessage, SocketDialer, Term, Terms, WireError, meet, read_head, read_more,
+    read_rest, refusal_octets, rest, send_all,
 };
 pub use progress::PeerProgress;
 pub use reaching::TellingDialer;
@@ -46,4 +46,4 @@ pub use replica_clock::Lack;
 pub use senders::{BEHIND_LENGTH, Senders, refusal_of};
 pub use server_monitor::{Counters, Reporter};
 pub use telling::text_of_forgotten;
-pub use vr_short::{NOTE_REST, note_number, note_sender};
+pub use vr_short::{NOTE_REST, note_number};
