@@ -1,5 +1,5 @@
 -- The first octets of a note, and of a greeting, name one sender; those of a frame say what their parts say.
-use Rattle.std.proofs.Common.{◌≡◌, ◌≤◌, ◌+◌, ◌-◌, inl, inr, ℕ, List, Result, Ok, Err, true, [], ◌∷◌, take, drop, sym, subst, ap, ◌∙◌}
+use Rattle.std.proofs.Common.{◌≡◌, ◌≤◌, ◌+◌, ◌-◌, inl, inr, ℕ, List, Result, Ok, Err, true, false, [], ◌∷◌, take, drop, sym, subst, ap, ◌∙◌}
 use Rattle.std.proofs.Math.Nat.{sub-add_cancel}
 use Rattle.std.specs.Int.{w32, from_be_bytes}
 use Rattle.vr_short.specs.Notes.{note_heading}
@@ -55,3 +55,22 @@ frame_heard s first length behind count p at from said heads other enough = (
   ap (from_be_bytes w32) (sym at) ∙ sym said.0 ∙ sym (sub-add_cancel enough),
   subst (λ octets. from_be_bytes w32 octets + 4 ≤ limit) at said.1,
 )
+
+-- what is refused by its heading is refused
+pub frame_refused : (s : Senders) (first behind : List ℕ) (e : WireError) → behind ≡ drop 4 first →
+    Heads s.cluster behind (Err e) → HeardFrame s first (Err e)
+frame_refused s first behind error.BadFrame from heads =
+    inr (inr (inl (subst (λ octets. Heads s.cluster octets (Err error.BadFrame)) from heads)))
+frame_refused s first behind error.ForeignFrame from heads =
+    subst (λ octets. Heads s.cluster octets (Err error.ForeignFrame)) from heads
+frame_refused s first behind error.NoMemory from heads =
+    subst (λ octets. Heads s.cluster octets (Err error.NoMemory)) from heads
+
+-- a frame of this replica, or of one that isn't there, is refused
+pub frame_of_none : (s : Senders) (first behind : List ℕ) (p : ℕ × ℕ) → behind ≡ drop 4 first →
+    Heads s.cluster behind (Ok p) → is_other s p.1 ≡ false → HeardFrame s first (Err error.BadFrame)
+frame_of_none s first behind p from heads none = inr (inr (inr (
+  p,
+  subst (λ octets. Heads s.cluster octets (Ok p)) from heads,
+  none,
+)))
